@@ -33,6 +33,7 @@ PAGES = (
 TOP_PAGES = ("README.md", "CHANGELOG.md", "CONTRIBUTING.md", "SECURITY.md")
 LISTS = (
     "dev/mutants.md",
+    "dev/mutants-logs.md",
     "dev/mutants-program.md",
     "dev/architecture/modules.md",
     "dev/architecture/modules-store.md",

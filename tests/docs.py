@@ -48,7 +48,7 @@ PAGES = (
     "models/*.md",
     "docs/**/*.md",
 )
-MUTANTS = ("docs/dev/mutants.md", "docs/dev/mutants-program.md")
+MUTANTS = ("docs/dev/mutants.md", "docs/dev/mutants-logs.md", "docs/dev/mutants-program.md")
 PYTHON = re.compile(r"^```python\n(.*?)^```", re.M | re.S)
 NAME = re.compile(r"(?<![\w/.\"])sagas\.([A-Z]\w*|[a-z_]+(?=\())")
 BLOCK = re.compile(r"^```.*?^```[ ]*$", re.M | re.S)
@@ -149,7 +149,11 @@ def wrong_in_code() -> Iterator[str]:
 
 def wrong_in_mutants() -> Iterator[str]:
     """Yield mutants without an entry in the pages of mutants, and entries without a mutant."""
-    files = [*TOP.glob("crates/*/mutants/*.edit"), *TOP.glob("python/tests/wrong*/[!_]*.py")]
+    files = [
+        *TOP.glob("crates/*/mutants/*.edit"),
+        *TOP.glob("crates/*/mutants/*.patch"),
+        *TOP.glob("python/tests/wrong*/[!_]*.py"),
+    ]
     mutants = {path.relative_to(TOP).with_suffix("").as_posix() for path in files}
     entries = set()
     for page in MUTANTS:

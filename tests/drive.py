@@ -570,7 +570,7 @@ BOUNDS = {
     "attempt": 65536,
     "most": 1001,
 }
-VALUES = {"outcome": ("ok", "fail"), "task": ("run", "undo"), "phase": follower.PHASES}
+VALUES = {"outcome": ("ok", "fail", "void"), "task": ("run", "undo"), "phase": follower.PHASES}
 
 
 def is_of_type(key, value):
@@ -959,7 +959,7 @@ def random_definition(draw, path):
 
 def random_report(draw, book):
     """Return a report on a busy step, mostly with its attempt, or on any step."""
-    busy, outcome = book.busy()["busy"], draw.choice(["ok", "ok", "ok", "fail"])
+    busy, outcome = book.busy()["busy"], draw.choice(["ok", "ok", "ok", "fail", "void"])
     if not busy or draw.random() < 0.1:
         other = task(draw.choice(["run", "undo"]), 0, 0, "", draw.randint(1, 3))
         return report(

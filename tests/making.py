@@ -99,7 +99,7 @@ def broken(content: str, position: int, byte: int = ord("}")) -> bytes:
     return whole[:position] + bytes([byte]) + whole[position + 1 :]
 
 
-NEW_EVENTS = ("missed", "undo_missed", "abort")
+NEW_EVENTS = ("missed", "undo_missed", "void", "abort")
 
 
 def event(name: str, answer: str = "null") -> str:

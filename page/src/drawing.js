@@ -1,8 +1,8 @@
 // Reads the text of a drawing, and makes a picture of it.
 
-const STATES = ['waiting', 'committed', 'failed', 'undone', 'fixed'];
+const STATES = ['waiting', 'committed', 'failed', 'undone', 'fixed', 'void'];
 // The dashboard's word for a state. A case has the program's words.
-const state_words = state => ({ committed: 'done', fixed: 'undo failed' })[state] || state;
+const state_words = state => ({ committed: 'done', void: 'without effect', fixed: 'undo failed' })[state] || state;
 const NEVER = Infinity;
 
 const cost_of = word => word === 'never' ? NEVER : Number(word);

@@ -4,6 +4,7 @@ function cost_to_keep(step, is_aborted) {
   switch (step.state) {
     case 'waiting': return is_aborted ? NEVER : step.run + step.keep;
     case 'committed': case 'fixed': return step.keep;
+    case 'void': return 0;
     default: return NEVER;
   }
 }
@@ -11,6 +12,7 @@ function cost_to_keep(step, is_aborted) {
 function cost_to_drop(step) {
   switch (step.state) {
     case 'committed': return step.undo + step.skip;
+    case 'void': return step.skip === NEVER ? NEVER : 0;
     case 'fixed': return NEVER;
     default: return step.skip;
   }

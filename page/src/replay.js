@@ -2,13 +2,13 @@
 
 // The state of a step after an event of it, in the program's words.
 const STATE_AFTER = {
-  start_run: 'running', commit: 'committed', missed: 'waiting', fail: 'failed',
+  start_run: 'running', commit: 'committed', void: 'void', missed: 'waiting', fail: 'failed',
   start_undo: 'undoing', undone: 'undone', undo_missed: 'committed', undo_fail: 'fixed',
 };
 
 // What an event says, after the name of its step or of the saga.
 const EVENT_WORDS = {
-  open: 'is opened', start_run: 'starts', commit: 'is done', missed: 'has failed, and is attempted again', fail: 'has failed',
+  open: 'is opened', start_run: 'starts', commit: 'is done', void: 'ends without an effect', missed: 'has failed, and is attempted again', fail: 'has failed',
   start_undo: 'is being undone', undone: 'is undone', undo_missed: 'could not be undone, which is attempted again', undo_fail: 'cannot be undone',
   abort: 'is aborted', start_plan: 'is planned', drop_plan: 'gets no plan', adopt: 'adopts a plan',
 };

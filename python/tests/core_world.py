@@ -35,6 +35,7 @@ from sagas.core.shard.driver import ShardDefinitions, ShardDriver, ShardIdentity
 from sagas.core.states import ShardState
 from sagas.definition.capacity import HEADER, SHARD_CAPACITY
 from sagas.definition.compiled import CompiledDefinition
+from sagas.definition.serialization import FAILED_HEAD
 from sagas.definition.start_options import StartOptions
 
 Call = tuple[int, int, str, int]
@@ -162,6 +163,11 @@ class Store:
         )
 
 
+def is_failure(value: str) -> bool:
+    """Return whether a stored result says that an optional step failed."""
+    return value.startswith(FAILED_HEAD)
+
+
 class World:
     """One shard, from its first saga to the end of its last."""
 
@@ -287,7 +293,7 @@ class World:
             committed = {
                 step
                 for step, word in enumerate(state.states)
-                if word in ("committed", "undoing", "fixed")
+                if word in ("committed", "void", "undoing", "fixed")
             }
             drains = state.phase in ("draining", "planning")
             is_so = (
@@ -297,8 +303,16 @@ class World:
             )
             if not all(is_so):
                 raise Wrong(f"{saga.key}: {is_so} {saga.results} {state}")
-            if any(saga.results[step] != self.effects[number, step, "run"] for step in committed):
-                raise Wrong(f"{saga.key}: another result than was returned")
+            for step in committed:
+                word, value = state.states[step], saga.results[step]
+                if not self._is_result(number, step, value):
+                    raise Wrong(f"{saga.key}: another result than was returned")
+                if word in ("committed", "void") and is_failure(value) != (word == "void"):
+                    raise Wrong(f"{saga.key}: step {step} is {word}, and its result is {value}")
+
+    def _is_result(self, number: int, step: int, value: str) -> bool:
+        """Return whether a value is what a step returned, or says that it failed."""
+        return is_failure(value) or value == self.effects.get((number, step, "run"))
 
     def _look_at_the_end(self) -> None:
         """Check that nothing is left, and that each caller got its reply."""
@@ -526,8 +540,10 @@ class World:
             raise Wrong(f"{attempt.row} is called before it is durable")
         for name, value in attempt.needed_results.items():
             step = saga.kind.names.index(name)
-            if attempt.kind == "run" and self.effects.get((saga.number, step, "run")) != value:
+            if attempt.kind == "run" and not self._is_result(saga.number, step, value):
                 raise Wrong(f"{attempt.row} is given {value} of {name}")
+        if attempt.undo and is_failure(saga.results[attempt.step]):
+            raise Wrong(f"{attempt.row} is called, and its step has no effect")
         action = saga.id, attempt.step, attempt.kind
         if action in self.store.finals:
             raise Wrong(f"{attempt.row} is called after a permanent failure")
@@ -646,8 +662,16 @@ class World:
         self._judge_rows()
 
     def _judge_rows(self) -> None:
-        for (id, step, kind, number), (event, value, _) in self.store.attempts.items():
+        rows = self.store.attempts.items()
+        void = {
+            (id, step)
+            for (id, step, kind, _), (event, value, _) in rows
+            if kind == "run" and event == "commit" and is_failure(value or "")
+        }
+        for (id, step, kind, number), (event, value, _) in rows:
             returned = self.effects.get((id % SHARD_CAPACITY, step, kind))
+            if (id, step) in void and (event == "undone" or is_failure(value or "")):
+                continue
             if event == "ok" or (event in ("commit", "undone") and returned != value):
                 raise Wrong(
                     f"{(id, step, kind, number)}: {value} is kept, and {returned} was returned"

@@ -57,7 +57,7 @@ FAULTS = stores.FAULTS | {
     "limit": "more functions ran at once than a limit by key allows",
     "on-end": "an end was not followed by a call with it, by two, or by one that came before it",
     "operator-lost": "an operator's answer was acknowledged, and the step ended otherwise",
-    "optional": "an optional step failed its saga, or its failure was undone",
+    "optional": "an optional step failed its saga, or its failure was undone, or is not void",
     "order": "a step began before one that it needs, or was undone before one that needs it",
     "paused": "a function was called while its definition was paused",
     "pivot": "a saga undid something after its pivot, or kept something without it",
@@ -389,6 +389,9 @@ class FeatureJudge(stores.Judge):
             if end.word == "fail" and instance.declared[end.step] in OPTIONAL:
                 if value.get("called", True):
                     fault("optional", f"{instance.key} failed by {end}: {value}")
+        void = {end.step for end in instance.ends if end.word == "void"}
+        if void != {*instance.failures}:
+            fault("optional", f"{instance.key} has void {void}, and {[*instance.failures]} failed")
         for step in instance.failures:
             if instance.declared[step] not in OPTIONAL or self._of(instance, step, "undo"):
                 fault("optional", f"{instance.key} {step} failed, and was undone")

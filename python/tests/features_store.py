@@ -91,7 +91,7 @@ class Instance:
             for (step, _, _), (event, value) in self.values.items()
             if event == "commit" and isinstance(value, dict) and [*value] == [FAILED]
         }
-        """The errors of optional steps that failed: the log has a commit of them."""
+        """The errors of optional steps that failed: they are void in the log."""
         self.good = {
             (end.step, end.kind): end
             for end in self.ends

@@ -16,6 +16,7 @@ from typing import Any
 import sagas
 from sagas.api.commands import Commands
 from sagas.api.end_calls import EndCalls
+from sagas.core import protocol
 from sagas.core.outcomes import SUCCEEDED, Outcome
 from sagas.definition import pivot
 from sagas.definition import child_fan_outs
@@ -86,6 +87,16 @@ def children_of_a_list_kept() -> None:
 def optional_failure_fails() -> None:
     """The failure of an optional step fails its saga."""
     setattr(attempt_machine, "kept_outcome", lambda attempt, outcome: outcome)
+
+
+@variant("optional", "optional", count=12)
+def optional_failure_counts() -> None:
+    """The failure of an optional step is committed for the engine, so its costs count."""
+
+    def word(attempt: Any) -> str:
+        return "ok" if protocol.is_success(attempt) else "fail"
+
+    setattr(protocol, "reported_word", word)
 
 
 @variant("optional", "optional", "for_each", count=24)

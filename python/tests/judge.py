@@ -20,6 +20,8 @@ from records import LogRows, Records, SagaRow
 from witness import notes_of
 from world import SILENT, expected
 
+from sagas.core.states import stored_event
+
 Json = dict[str, Any]
 HEADER = '{"format":2}\n'
 
@@ -88,6 +90,7 @@ def ends_of(log: LogRows, steps: list[str], number: int) -> Iterator[Event]:
     misses: Counter[tuple[int, str]] = Counter()
     kinds = {
         "commit": "run",
+        "void": "run",
         "missed": "run",
         "fail": "run",
         "undone": "undo",
@@ -295,7 +298,7 @@ class Judge:
             for (id, step, kind, attempt), result in self.records.results.items()
             if id == row.id
         }
-        if kept != {(end.step, end.kind, end.attempt): end.word for end in ends}:
+        if kept != {(end.step, end.kind, end.attempt): stored_event(end.word) for end in ends}:
             fault(
                 "results",
                 (

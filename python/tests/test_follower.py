@@ -36,7 +36,7 @@ def request(draw: st.DataObject, follower: Follower) -> Json:
         return {"do": "open", "def": draw.draw(st.integers(0, len(follower.definitions)))} | number
     if do == "report" and busy:
         task = draw.draw(st.sampled_from(busy))
-        outcome = draw.draw(st.sampled_from(["ok", "ok", "fail"]))
+        outcome = draw.draw(st.sampled_from(["ok", "ok", "void", "fail"]))
         attempt = task["attempt"] + draw.draw(st.sampled_from([0, 0, 0, 0, 1]))
         of = draw.draw(st.sampled_from([{}, {"task": task["task"], "attempt": attempt}]))
         return {"do": "report", "outcome": outcome, "saga": task["saga"], "step": task["step"]} | of

@@ -15,9 +15,8 @@ from test_codec import KNOWN
 
 import sagas
 from sagas.core.attempt.declared_values import OptionCalls
-from sagas.core.attempt.instance import LARGE_VALUE
 from sagas.core.states import AttemptState
-from sagas.definition.payloads import ABSENT
+from sagas.definition.payloads import ABSENT, LARGE_VALUE
 
 BIG = "b" * (4 * LARGE_VALUE)
 INPUT = {"who": "ann", "big": BIG, "parcels": {"x": BIG, "y": "small"}}

@@ -14,6 +14,7 @@ from server import Server
 SOME = (
     "early_report_dropped",
     "end_not_called",
+    "optional_failure_counts",
     "optional_failure_fails",
     "plain_input_kept",
     "wrong_result_handed",

@@ -304,6 +304,86 @@ def test_it_fails_while_the_saga_is_being_undone(location: str) -> None:
     run(main())
 
 
+# -- plans
+
+
+def parcels_of(*, optional: bool) -> sagas.Saga:
+    """Return a saga whose second parcel fails, and then its last step."""
+    saga = sagas.Saga("parcels", order="declared")
+
+    @saga.step(for_each="parcels", optional=optional, keep=100, undo=30)
+    def ship(task: sagas.ItemTask[Any, int]) -> int:
+        if task.item == 2:
+            raise sagas.Fail("mailbox full")
+        return task.item
+
+    @ship.compensation
+    def fetch(task: sagas.ItemTask[Any, int]) -> None:
+        assert task.item != 2
+
+    needs = [ship] if optional else [sagas.collect(ship)]
+
+    @saga.step(needs=needs)
+    def last(task: Task) -> None:
+        raise sagas.Fail("closed")
+
+    return saga
+
+
+@pytest.mark.parametrize("optional", [True, False], ids=["optional", "collected"])
+def test_a_failure_costs_nothing_in_a_plan(optional: bool, location: str) -> None:
+    """Neither `keep` nor `undo` of it counts, and the events say that it had no effect."""
+    saga = parcels_of(optional=optional)
+
+    async def main() -> None:
+        async with sagas.open(location, [saga]) as store:
+            end = await (await store.start(saga, "k", {"parcels": [1, 2, 3]})).wait()
+            assert (end.phase, end.cost, end.optional_failures) == ("recovered", 60, ["ship-1"])
+            assert end.states == {
+                "ship-0": "undone",
+                "ship-1": "failed",
+                "ship-2": "undone",
+                "last": "failed",
+            }
+            plan = await store.plan("k")
+            assert plan.cost == 60 and plan.case["states"][1] == "void", plan
+            choice = plan.choices[1]
+            assert (choice.cost_to_keep, choice.cost_to_drop) == (0, 0), choice
+            assert (choice.decision, choice.is_optional_failure) == ("is left out", True)
+            assert [event.event for event in await store.log("k") if event.step == "ship-1"] == [
+                "start_run",
+                "fail",
+            ]
+
+    run(main())
+    assert store_command.main([location, "audit"]) == 0
+    assert sagas.testing.run(saga, {"parcels": [1, 2, 3]}).cost == 60
+
+
+def test_a_failure_is_kept_through_a_restart(location: str) -> None:
+    """The node that continues the saga counts the failure as nothing, too."""
+    saga = sagas.Saga("parcels", order="declared")
+    saga.step(name="mail", optional=True, keep=100, undo=30)(fail).compensation(lambda task: None)
+    saga.step(name="ship", keep=9)(lambda task: None).compensation(lambda task: None)
+    saga.approval(name="review")(lambda task: None)
+    saga.step(name="last")(fail)
+
+    async def main() -> None:
+        async with sagas.open(location, [saga], node="one") as store:
+            await store.start(saga, "k")
+            await until(
+                lambda: "review" in (attempt.step for attempt in store.active_attempts("k"))
+            )
+        async with sagas.open(location, [saga], node="two") as store:
+            await store.complete("k", "review", None)
+            end = await store.wait("k")
+            assert (end.phase, end.cost, end.optional_failures) == ("recovered", 0, ["mail"])
+            assert end.states["ship"] == "undone"
+
+    run(main())
+    assert store_command.main([location, "audit"]) == 0
+
+
 def test_a_deploy_changes_the_option(tmp_path: pathlib.Path) -> None:
     """A saga keeps what its definition said at its start."""
 

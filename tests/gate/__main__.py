@@ -420,7 +420,7 @@ def read_mutants(tree: Tree) -> Tally:
         wrong = sorted(
             it.name
             for it in (tree.folder(crate) / "mutants").iterdir()
-            if it.suffix not in (".edit", ".twin")
+            if it.suffix not in (".edit", ".patch", ".twin")
         )
         if wrong:
             tally.fail(f"{crate}/mutants: neither a mutant nor a twin: {', '.join(wrong)}")

@@ -44,8 +44,9 @@ def file_of(tree: Tree) -> Path:
 
 
 def files_of(tree: Tree, crate: str) -> list[Path]:
-    """Return the mutants of a crate. Its twins are no part of a verdict."""
-    return sorted((tree.folder(crate) / "mutants").glob("*.edit"))
+    """Return the mutants of a crate, patches too. Its twins are no part of a verdict."""
+    folder = tree.folder(crate) / "mutants"
+    return sorted([*folder.glob("*.edit"), *folder.glob("*.patch")])
 
 
 def digest_of(tree: Tree, crate: str, logic: str) -> str:

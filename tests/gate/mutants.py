@@ -16,6 +16,9 @@ prover must not refuse it. If it refuses the twin of a mutant, then the refusal 
 only that the text of a proof no longer fits, and nothing about the contract. Such a twin has a line
 `refused: WHY`. Each round has one twin as its control. If the prover refuses the control, the round
 has no result.
+
+A *patch* is a mutant of a public contract, a file `NAME.patch`; `patches.py` describes it. It goes
+alone.
 """
 
 from __future__ import annotations
@@ -31,7 +34,12 @@ from collections.abc import Iterable, Sequence
 from dataclasses import dataclass
 from pathlib import Path
 
-from crates import PARTS, Tree
+import patches
+from crates import PARTS, Tree, contracts
+from patches import InvalidPatch, Patch
+
+FOLDERS = tuple(f"{part}/" for part in PARTS)
+"""The beginnings of the paths that a mutant may change."""
 
 CANNOT_READ = re.compile(
     r"is not in scope|has no field|is no name|operand is missing|expected the end|cannot continue"
@@ -143,7 +151,8 @@ class Change:
 class Mutant:
     """A mutant or a twin of a crate, with the functions that it changes.
 
-    A twin has a reason if the prover refuses it, although it means the same.
+    A twin has a reason if the prover refuses it, although it means the same. The first function of
+    a patch is the one that the prover must refuse.
     """
 
     crate: str
@@ -153,6 +162,15 @@ class Mutant:
     reason: str
     changes: tuple[Change, ...]
     functions: tuple[Function, ...]
+    patch: Patch | None = None
+
+    @property
+    def files(self) -> set[str]:
+        """The files that it changes."""
+        return {
+            *(change.file for change in self.changes),
+            *(self.patch.files if self.patch else ()),
+        }
 
     @property
     def label(self) -> str:
@@ -208,6 +226,8 @@ def read_mutant(tree: Tree, path: Path) -> Mutant:
     crate = path.parent.parent.name
     folder = tree.folder(crate)
     try:
+        if path.suffix == ".patch":
+            return read_patched(folder, path)
         changes, only, reason = read_changes(path.read_text(encoding="utf-8"))
         held = [function_of(folder, change) for change in changes]
         if only:
@@ -218,11 +238,46 @@ def read_mutant(tree: Tree, path: Path) -> Mutant:
             )
         if reason and path.suffix != ".twin":
             raise InvalidMutant("only a twin has a line 'refused:'")
-    except InvalidMutant as error:
+    except (InvalidMutant, InvalidPatch) as error:
         raise InvalidMutant(f"{crate}/{path.name}: {error}") from None
     unique = {function.key: function for function in held if function}
     is_twin = path.suffix == ".twin"
     return Mutant(crate, path.stem, is_twin, bool(only), reason, changes, tuple(unique.values()))
+
+
+def copy_crate(source: Path, folder: Path) -> None:
+    """Copy what the prover reads of a crate."""
+    for part in PARTS:
+        if (source / part).is_dir():
+            shutil.copytree(source / part, folder / part)
+
+
+def read_patched(folder: Path, path: Path) -> Mutant:
+    """Read a patch of a crate, and find the functions that it names in the patched crate.
+
+    Raises:
+        InvalidMutant, InvalidPatch: it cannot be applied, or changes the contract that it is about.
+    """
+    patch = patches.read_patch(path.read_text(encoding="utf-8"))
+    if changed := patches.definitions_changed(patch, folder):
+        raise InvalidMutant(f"it changes definitions: {', '.join(changed)}")
+    if outside := sorted(it for it in patch.files if not it.startswith(FOLDERS)):
+        raise InvalidMutant(f"{outside[0]} is not below src/, specs/ or proofs/")
+    before = contract_of(folder, function_named(folder, patch.target))
+    with tempfile.TemporaryDirectory(prefix="mutants-") as name:
+        copy = Path(name)
+        copy_crate(folder, copy)
+        patches.apply(patch, copy)
+        named = [function_named(copy, it) for it in (patch.target, *patch.proved)]
+        if contract_of(copy, named[0]) != before:
+            raise InvalidMutant(f"it changes the contract of {patch.target}")
+    return Mutant(folder.name, path.stem, False, True, "", (), tuple(named), patch)
+
+
+def contract_of(folder: Path, function: Function) -> str:
+    """Return the signature and the clauses of a function."""
+    lines = (folder / function.file).read_text(encoding="utf-8").split("\n")
+    return contracts("\n".join(lines[function.first - 1 : function.last]))
 
 
 def function_of(folder: Path, change: Change) -> Function | None:
@@ -231,7 +286,7 @@ def function_of(folder: Path, change: Change) -> Function | None:
     Raises:
         InvalidMutant: the file is missing, or the text does not occur in it once.
     """
-    if not change.file.startswith(tuple(f"{part}/" for part in PARTS)):
+    if not change.file.startswith(FOLDERS):
         raise InvalidMutant(f"{change.file} is not below src/, specs/ or proofs/")
     try:
         text = (folder / change.file).read_text(encoding="utf-8")
@@ -261,18 +316,24 @@ def function_named(folder: Path, path: str) -> Function:
 
 
 def read_all(tree: Tree, crate: str, suffix: str = ".edit") -> list[Mutant]:
-    """Return the mutants of a crate, or its twins, by name.
+    """Return the mutants of a crate with its patches, or its twins, by name.
 
     Raises:
         InvalidMutant: one cannot be applied.
     """
-    files = sorted((tree.folder(crate) / "mutants").glob(f"*{suffix}"))
+    suffixes = (suffix, ".patch") if suffix == ".edit" else (suffix,)
+    files = [it for it in (tree.folder(crate) / "mutants").glob("*") if it.suffix in suffixes]
+    files.sort()
     return [read_mutant(tree, path) for path in files]
 
 
 def crates_with_mutants(tree: Tree) -> list[str]:
     """Return the crates that have mutants, lowest first."""
-    names = [it for it in tree.crates if [*(tree.folder(it) / "mutants").glob("*.edit")]]
+    suffixes = {".edit", ".patch"}
+    folders = {it: tree.folder(it) / "mutants" for it in tree.crates}
+    names = [
+        it for it, folder in folders.items() if suffixes & {f.suffix for f in folder.glob("*")}
+    ]
     return sorted(names, key=lambda name: (len(tree.below(name)), name))
 
 
@@ -317,7 +378,7 @@ def fits(mutant: Mutant, others: Sequence[Mutant]) -> bool:
 
 def with_control(mutants: Sequence[Mutant], twins: Sequence[Mutant]) -> Round:
     """Return a round of these mutants, with a twin as its control: `control`, or a small one."""
-    changed = {change.file for it in mutants for change in it.changes if it.is_alone}
+    changed = {file for it in mutants for file in it.files if it.is_alone}
     for twin in sorted(twins, key=lambda it: (it.name != "control", it.size, it.name)):
         if twin in mutants or twin.reason or any(twin.keys & it.keys for it in mutants):
             continue
@@ -403,10 +464,11 @@ def check_round(tree: Tree, toolchain: Toolchain, round_: Round) -> Answer:
     source = tree.folder(round_.crate)
     with tempfile.TemporaryDirectory(prefix="mutants-") as name:
         folder = Path(name)
-        for part in PARTS:
-            if (source / part).is_dir():
-                shutil.copytree(source / part, folder / part)
-        for file, text in texts_with(source, round_.all).items():
+        copy_crate(source, folder)
+        for mutant in round_.mutants:
+            if mutant.patch:
+                patches.apply(mutant.patch, folder)
+        for file, text in texts_with(folder, round_.all).items():
             (folder / file).write_text(text, encoding="utf-8")
         paths = sorted({it.path for mutant in round_.all for it in mutant.functions})
         arguments = toolchain.command(tree, round_.crate)
@@ -444,12 +506,54 @@ def used_seconds(used: resource.struct_rusage) -> float:
 
 def verdict_of(crate: str, mutant: Mutant, answer: Answer) -> tuple[Verdict, str]:
     """Return the verdict of an answer on a mutant, and the line with the verdict."""
+    if mutant.patch:
+        return verdict_of_patch(crate, mutant, mutant.patch, answer)
     verdicts = [verdict_of_function(crate, it, answer) for it in mutant.functions]
     for verdict in (Verdict.REFUSED, Verdict.UNCLEAR, Verdict.PROVED):
         for candidate, line in verdicts:
             if candidate is verdict:
                 return verdict, line
     return Verdict.UNCLEAR, answer.last
+
+
+def verdict_of_patch(
+    crate: str, mutant: Mutant, patch: Patch, answer: Answer
+) -> tuple[Verdict, str]:
+    """Return the verdict of an answer on a patch, and the line with the verdict.
+
+    It is refused if its function is, at its clauses and at no other goal, and all else is proved.
+    """
+    target, *others = mutant.functions
+    for other in others:
+        verdict, line = verdict_of_function(crate, other, answer)
+        if verdict is not Verdict.PROVED:
+            return Verdict.UNCLEAR, line
+    for line in answer.lines:
+        state = re.match(r"fn (\S+): (.*)", line)
+        if state and not state[2].startswith("proved") and not ends_with(state[1], target.path):
+            return Verdict.UNCLEAR, line
+    verdict, line = verdict_of_function(crate, target, answer)
+    goals = goals_of(target, answer)
+    if verdict is Verdict.REFUSED and goals != patch.clauses:
+        return Verdict.UNCLEAR, f"{target.path} is refused at {', '.join(sorted(goals)) or line}"
+    return verdict, line
+
+
+def ends_with(path: str, end: str) -> bool:
+    """Return whether a path of the prover ends with the path of a function."""
+    return f"::{path}".endswith(f"::{end}")
+
+
+def goals_of(function: Function, answer: Answer) -> set[str]:
+    """Return the clauses of a function that are not proved, and its other goals by their names."""
+    lines = [line for line in answer.lines if is_goal_of(function, line, answer)]
+    names = [match[1] for match in (re.search(r"\(`([^`]+)`\)", line) for line in lines) if match]
+    return {name.rpartition("-clause-")[2] if is_return(name) else name for name in names}
+
+
+def is_return(goal: str) -> bool:
+    """Return whether a goal is a clause of what a function ensures."""
+    return goal.startswith("returns") and "-clause-" in goal
 
 
 def verdict_of_function(crate: str, function: Function, answer: Answer) -> tuple[Verdict, str]:
@@ -484,7 +588,7 @@ def is_goal_of(function: Function, line: str, answer: Answer) -> bool:
 
 def cannot_read(lines: Iterable[str], mutants: Iterable[Mutant]) -> str:
     """Return the first line that reports a changed text as unreadable, or an empty text."""
-    changed = {change.file for mutant in mutants for change in mutant.changes}
+    changed = {file for mutant in mutants for file in mutant.files}
     for line in lines:
         at = re.match(r"(?:\./)?(\S+?):\d+:\d+: error: (?:(`[^`]*`): )?(.*)", line)
         if at and at[1] in changed and not at[1].startswith("proofs/"):

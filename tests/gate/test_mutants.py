@@ -222,6 +222,139 @@ pub fn same(number: u32) -> u32
 """
 
 
+LAYERED = """\
+#![tactic(auto)]
+
+ghost use Rattle.std.specs.Prelude.{◌≡◌, ◌+◌, ◌≤◌};
+
+fn more(count: u32) -> u32
+    requires { count ≤ 7 }
+    ensures { result ≡ count + 1 }
+{
+    count + 1
+}
+
+pub fn next(count: u32) -> u32
+    requires { count ≤ 7 }
+    ensures exact { result ≡ count + 1 }
+    ensures above { 1 ≤ result }
+{
+    more(count)
+}
+
+pub fn same(number: u32) -> u32
+    ensures { result ≡ number }
+{
+    number
+}
+"""
+SKIPS = """\
+--- a/src/lib.rt
++++ b/src/lib.rt
+@@ -4,9 +4,9 @@
+ 
+ fn more(count: u32) -> u32
+     requires { count ≤ 7 }
+-    ensures { result ≡ count + 1 }
++    ensures { result ≡ count + 2 }
+ {
+-    count + 1
++    count + 2
+ }
+ 
+ pub fn next(count: u32) -> u32
+"""
+
+
+def patched(tree: Tree, head: str, diff: str = SKIPS) -> Mutant:
+    """Write and read a patch of a crate with a private function below a public one."""
+    (tree.folder("book") / "src/lib.rt").write_text(LAYERED, encoding="utf-8")
+    path = tree.folder("book") / "mutants/skips.patch"
+    path.write_text(head + diff, encoding="utf-8")
+    return mutants.read_mutant(tree, path)
+
+
+def test_a_patch_is_about_a_public_clause(tree: Tree) -> None:
+    read = patched(tree, "at: next exact\nonly: more\n")
+    assert read.patch and read.patch.clauses == {"exact"} and read.files == {"src/lib.rt"}
+    assert [it.path for it in read.functions] == ["next", "more"]
+    assert read.is_alone and not read.is_twin
+    assert mutants.read_all(tree, "book") == [read] and mutants.crates_with_mutants(tree) == [
+        "book"
+    ]
+
+
+@pytest.mark.parametrize(
+    "head, diff, why",
+    [
+        ("only: more\n", SKIPS, "first line is not 'at:"),
+        ("at: next\n", SKIPS, "first line is not 'at:"),
+        ("at: next exact\n", "", "it has no diff"),
+        ("at: next exact\n", SKIPS.replace("{ count ≤ 7 }", "{ count ≤ 8 }"), "cannot be applied"),
+        ("at: later exact\n", SKIPS, "function later is missing"),
+        ("at: next exact\nonly: later\n", SKIPS, "function later is missing"),
+        ("at: more exact\n", SKIPS, "changes the contract of more"),
+        ("at: next exact\n", SKIPS.replace("src/lib.rt", "out/lib.rt"), "not below src/"),
+    ],
+)
+def test_a_patch_that_shows_nothing_is_refused(tree: Tree, head: str, diff: str, why: str) -> None:
+    with pytest.raises(InvalidMutant, match=why):
+        patched(tree, head, diff)
+
+
+def test_a_patch_changes_no_definition(tree: Tree) -> None:
+    specs = tree.folder("book") / "specs"
+    specs.mkdir()
+    (specs / "Rules.antt").write_text("old\n")
+    diff = "--- a/specs/Rules.antt\n+++ b/specs/Rules.antt\n@@ -1 +1 @@\n-old\n+new\n"
+    with pytest.raises(InvalidMutant, match="changes definitions: specs/Rules.antt"):
+        patched(tree, "at: next exact\n", diff)
+    more = "--- /dev/null\n+++ b/specs/More.antt\n@@ -0,0 +1 @@\n+new\n"
+    assert patched(tree, "at: next exact\n", SKIPS + more).files == {
+        "src/lib.rt",
+        "specs/More.antt",
+    }
+
+
+GOAL = (
+    "note: src/lib.rt:17:5: it is not proved that what the function ensures holds when it returns"
+)
+EXACT, ABOVE = (f"{GOAL} (`returns-clause-{it}`)" for it in ("exact", "above"))
+REFUSED = "fn book::next: not proved"
+
+
+@pytest.mark.parametrize(
+    "lines, verdict",
+    [
+        ([EXACT, REFUSED, "fn book::more: proved"], Verdict.REFUSED),
+        ([EXACT, ABOVE, REFUSED, "fn book::more: proved"], Verdict.UNCLEAR),
+        ([ABOVE, REFUSED, "fn book::more: proved"], Verdict.UNCLEAR),
+        ([EXACT, REFUSED, "fn book::more: not proved"], Verdict.UNCLEAR),
+        ([EXACT, REFUSED, "fn book::more: proved", "fn book::less: not proved"], Verdict.UNCLEAR),
+        (["fn book::next: proved", "fn book::more: proved"], Verdict.PROVED),
+    ],
+)
+def test_a_patch_is_refused_at_its_clause_alone(
+    tree: Tree, lines: list[str], verdict: Verdict
+) -> None:
+    read = patched(tree, "at: next exact\nonly: more\n")
+    known = {it.key: [it] for it in mutants.functions("src/lib.rt", LAYERED)}
+    reply = Answer([*lines, "only=3 proved=2", ""], 1, 1.0, known)
+    assert mutants.verdict_of("book", read, reply)[0] is verdict
+
+
+def test_the_prover_refuses_a_patch_at_a_public_clause(tree: Tree) -> None:
+    """With the real prover: the private function is proved, and the public clause is not."""
+    toolchain = mutants.Toolchain.find()
+    if toolchain is None:
+        pytest.skip("there is no toolchain (rt) on this machine")
+    for head, verdict in (("exact", Verdict.REFUSED), ("above", Verdict.UNCLEAR)):
+        read = patched(tree, f"at: next {head}\nonly: more\n")
+        control = mutant(tree, "control.twin", ("    number", "    let it = number; it"))
+        tried = mutants.try_round(tree, toolchain, Round("book", (read,), control))
+        assert [it.verdict for it in tried.outcomes] == [verdict]
+
+
 def test_the_prover_refuses_a_mutant_and_proves_what_means_the_same(tree: Tree) -> None:
     """With the real prover: a mutant that it does not refuse fails, and so does a wrong twin."""
     toolchain = mutants.Toolchain.find()

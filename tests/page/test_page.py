@@ -341,6 +341,61 @@ def test_states_by_clicks_and_keys(page: Chromium) -> None:
     assert page_state["shall"] == ["skip"] * 4
 
 
+def prices(page: Chromium) -> list[list[str]]:
+    """The costs to keep and to drop each step, and the reason."""
+    rows: list[list[str]] = page.run(
+        "return [...document.querySelectorAll('#steps tbody tr')].map(row =>"
+        " [row.cells[2], row.cells[3], row.cells[6]].map(cell => cell.textContent))"
+    )
+    return rows
+
+
+NEEDED = """format = 1
+name = "needed"
+step = [{ name = "a", undo = 5, skip = "never", keep = 9 }, { name = "b", needs = ["a"] }]
+"""
+VOID_LOG = """{"format":2}
+{"def":0,"event":"open","saga":0}
+{"event":"start_run","saga":0,"step":0}
+{"event":"void","saga":0,"step":0}
+{"event":"start_run","saga":0,"step":1}
+{"event":"fail","saga":0,"step":1}
+{"event":"start_plan","saga":0}
+"""
+ADOPTED = (
+    '{"answer":{"cost":0,"kept":[0],"kind":"plan","leave":[0,0],"links":[0],"stand":[0,0]},'
+    '"event":"adopt","saga":0}\n'
+)
+
+
+def test_a_step_without_an_effect(page: Chromium) -> None:
+    """It costs nothing, in a plan and in the replay of a log. It may have to stay."""
+    page.show("plan", 0)
+    page_state = page.change(
+        "const it = document.querySelector('select[data-step=\"1\"]'); it.value = 'void';"
+        "it.dispatchEvent(new Event('change'))"
+    )
+    assert json.loads(page_state["case"])["states"][1] == "void"
+    assert page_state["kind"] == "good" and prices(page)[1][:2] == ["0", "0"]
+    state = "document.querySelector('.node[data-step=\"1\"] text.line').textContent"
+    assert page.run(f"return {state}") == "without effect"
+    page.change(
+        "document.querySelector('.node[data-step=\"1\"]')"
+        ".dispatchEvent(new MouseEvent('click', { bubbles: true }))"
+    )
+    assert json.loads(page.shown()["case"])["states"][1] == "waiting", "it is the last state"
+    page_state = page.put({"definition": NEEDED, "case": '{"states":["void","failed"]}'})
+    assert page_state["verdict"] == "Plan of minimum cost 0: keep a"
+    assert page_state["shall"] == ["keep", "skip"]
+    assert prices(page) == [["0", "never", "it is mandatory"], ["never", "0", "it has failed"]]
+    page.show("replay", 0)
+    page.put({"definition": NEEDED, "log": VOID_LOG + ADOPTED})
+    assert moment(page) == ("6 of 6", "The saga adopts a plan", ["without effect", "failed"])
+    page.change("document.querySelectorAll('#events button')[2].click()")
+    assert moment(page) == ("2 of 6", "A ends without an effect", ["without effect", "waiting"])
+    assert otherwise(page) == ["not possible", "0"]
+
+
 def moment(page: Chromium) -> tuple[str, str, list[str]]:
     """The number of the event that is shown, its words, and the states of the steps."""
     return tuple(

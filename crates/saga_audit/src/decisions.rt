@@ -18,6 +18,7 @@ fn reason_of_transition(transition: Transition) -> Reason
     match transition {
         Transition::StartRun | Transition::StartUndo => Reason::NotNow,
         Transition::Commit
+        | Transition::Void
         | Transition::Missed
         | Transition::Fail
         | Transition::Undone

@@ -8,7 +8,7 @@ use Rattle.saga_def.specs.declared.steps.Price.TheVariants.{Of, Never}
 use Rattle.saga_def.specs.declared.steps.Step.{Step}
 use Rattle.saga_def.specs.Order.{Steps}
 use Rattle.saga_case.specs.declared.states.StepState.{StepState}
-use Rattle.saga_case.specs.declared.states.StepState.TheVariants.{Waiting, Running, Committed, Undoing, Fixed}
+use Rattle.saga_case.specs.declared.states.StepState.TheVariants.{Waiting, Running, Committed, Void, Undoing, Fixed}
 use Rattle.saga_case.specs.Free.{none, CostsNothing, IsFree}
 use Rattle.saga_case.specs.Prices.{leave_of}
 use Rattle.saga_case.specs.States.{IsBusy}
@@ -25,6 +25,7 @@ prices_zero (suc n) price free = rw (prices_zero n price (λ s lt. free s (omega
 leave_zero : (state : StepState) (step : Step) → (IsBusy state → ⊥) → (state ≢ Fixed) → CostsNothing step → leave_of state step ≡ Of 0
 leave_zero Running step rest undoable free = absurd (rest tt)
 leave_zero Committed step rest undoable free = rw (free.undo, free.skip) refl
+leave_zero Void step rest undoable free = rw free.skip refl
 leave_zero Undoing step rest undoable free = absurd (rest tt)
 leave_zero Fixed step rest undoable free = absurd (undoable refl)
 leave_zero _ step rest undoable free = free.skip

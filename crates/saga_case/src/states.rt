@@ -1,6 +1,6 @@
 //! The states of a step.
 ghost use Rattle.std.specs.Prelude.{◌≡◌, ◌↔◌, IsTrue};
-ghost use Rattle.saga_case.specs.States.{word_of, IsBusy};
+ghost use Rattle.saga_case.specs.States.{commits, word_of, IsBusy};
 
 /// The state of a step of a saga.
 #[derive(Clone, Copy, Debug, PartialEq, Eq)]
@@ -10,6 +10,8 @@ pub enum StepState {
     /// Its action is in progress.
     Running,
     Committed,
+    /// Its action ended without an effect. For the steps that need it, it is committed.
+    Void,
     /// Its action failed, and left no effect.
     Failed,
     /// Its compensation is in progress.
@@ -29,6 +31,7 @@ impl StepState {
             StepState::Waiting => "waiting",
             StepState::Running => "running",
             StepState::Committed => "committed",
+            StepState::Void => "void",
             StepState::Failed => "failed",
             StepState::Undoing => "undoing",
             StepState::Undone => "undone",
@@ -42,6 +45,16 @@ impl StepState {
     {
         match self {
             StepState::Running | StepState::Undoing => true,
+            _ => false,
+        }
+    }
+
+    /// Whether it counts as committed for the steps that need it: it is committed or void.
+    pub fn commits(&self) -> bool
+        ensures { result ≡ commits self.now }
+    {
+        match self {
+            StepState::Committed | StepState::Void => true,
             _ => false,
         }
     }

@@ -6,7 +6,7 @@ use Rattle.serde_json.specs.Find.{get}
 use Rattle.saga_def.specs.Contents.{Contents}
 use Rattle.saga_case.specs.declared.answers.Answer.{Answer}
 use Rattle.saga_case.specs.declared.states.StepState.{StepState}
-use Rattle.saga_case.specs.declared.states.StepState.TheVariants.{Waiting, Running, Committed, Failed, Undoing, Undone, Fixed}
+use Rattle.saga_case.specs.declared.states.StepState.TheVariants.{Waiting, Running, Committed, Void, Failed, Undoing, Undone, Fixed}
 use Rattle.saga_case.specs.Situation.{Situation, situation, HasStates}
 use Rattle.saga_bytes.proofs.ReadingLemmas.{Stays, then, each-stays, either}
 use Rattle.saga_json.specs.declared.faults.JsonFault.{JsonFault}
@@ -110,14 +110,15 @@ known test state rest h = either {A = StepState} OfValue test (Ok state) rest (t
 
 state_named-stays : (word : List ℕ) → StaysInValue (state_named word)
 state_named-stays word =
-    known (bytes_eq word (codes "waiting")) Waiting (cond (bytes_eq word (codes "running")) (Ok Running) (cond (bytes_eq word (codes "committed")) (Ok Committed) (cond (bytes_eq word (codes "failed")) (Ok Failed) (cond (bytes_eq word (codes "undoing")) (Ok Undoing) (cond (bytes_eq word (codes "undone")) (Ok Undone) (cond (bytes_eq word (codes "fixed")) (Ok Fixed) (Err BadType)))))))
-    (known (bytes_eq word (codes "running")) Running (cond (bytes_eq word (codes "committed")) (Ok Committed) (cond (bytes_eq word (codes "failed")) (Ok Failed) (cond (bytes_eq word (codes "undoing")) (Ok Undoing) (cond (bytes_eq word (codes "undone")) (Ok Undone) (cond (bytes_eq word (codes "fixed")) (Ok Fixed) (Err BadType))))))
-    (known (bytes_eq word (codes "committed")) Committed (cond (bytes_eq word (codes "failed")) (Ok Failed) (cond (bytes_eq word (codes "undoing")) (Ok Undoing) (cond (bytes_eq word (codes "undone")) (Ok Undone) (cond (bytes_eq word (codes "fixed")) (Ok Fixed) (Err BadType)))))
+    known (bytes_eq word (codes "waiting")) Waiting (cond (bytes_eq word (codes "running")) (Ok Running) (cond (bytes_eq word (codes "committed")) (Ok Committed) (cond (bytes_eq word (codes "void")) (Ok Void) (cond (bytes_eq word (codes "failed")) (Ok Failed) (cond (bytes_eq word (codes "undoing")) (Ok Undoing) (cond (bytes_eq word (codes "undone")) (Ok Undone) (cond (bytes_eq word (codes "fixed")) (Ok Fixed) (Err BadType))))))))
+    (known (bytes_eq word (codes "running")) Running (cond (bytes_eq word (codes "committed")) (Ok Committed) (cond (bytes_eq word (codes "void")) (Ok Void) (cond (bytes_eq word (codes "failed")) (Ok Failed) (cond (bytes_eq word (codes "undoing")) (Ok Undoing) (cond (bytes_eq word (codes "undone")) (Ok Undone) (cond (bytes_eq word (codes "fixed")) (Ok Fixed) (Err BadType)))))))
+    (known (bytes_eq word (codes "committed")) Committed (cond (bytes_eq word (codes "void")) (Ok Void) (cond (bytes_eq word (codes "failed")) (Ok Failed) (cond (bytes_eq word (codes "undoing")) (Ok Undoing) (cond (bytes_eq word (codes "undone")) (Ok Undone) (cond (bytes_eq word (codes "fixed")) (Ok Fixed) (Err BadType))))))
+    (known (bytes_eq word (codes "void")) Void (cond (bytes_eq word (codes "failed")) (Ok Failed) (cond (bytes_eq word (codes "undoing")) (Ok Undoing) (cond (bytes_eq word (codes "undone")) (Ok Undone) (cond (bytes_eq word (codes "fixed")) (Ok Fixed) (Err BadType)))))
     (known (bytes_eq word (codes "failed")) Failed (cond (bytes_eq word (codes "undoing")) (Ok Undoing) (cond (bytes_eq word (codes "undone")) (Ok Undone) (cond (bytes_eq word (codes "fixed")) (Ok Fixed) (Err BadType))))
     (known (bytes_eq word (codes "undoing")) Undoing (cond (bytes_eq word (codes "undone")) (Ok Undone) (cond (bytes_eq word (codes "fixed")) (Ok Fixed) (Err BadType)))
     (known (bytes_eq word (codes "undone")) Undone (cond (bytes_eq word (codes "fixed")) (Ok Fixed) (Err BadType))
     (known (bytes_eq word (codes "fixed")) Fixed (Err BadType)
-    (tt {0})))))))
+    (tt {0}))))))))
 
 state_of-stays : (value : Data) → StaysInValue (state_of value)
 state_of-stays (string word) = state_named-stays word

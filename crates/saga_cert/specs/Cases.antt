@@ -5,7 +5,7 @@ use Rattle.serde_json.specs.Data.{Data, boolean, string, array, object, no_membe
 use Rattle.serde_json.specs.Find.{get}
 use Rattle.saga_case.specs.States.{word_of}
 use Rattle.saga_case.specs.declared.states.StepState.{StepState}
-use Rattle.saga_case.specs.declared.states.StepState.TheVariants.{Waiting, Running, Committed, Failed, Undoing, Undone, Fixed}
+use Rattle.saga_case.specs.declared.states.StepState.TheVariants.{Waiting, Running, Committed, Void, Failed, Undoing, Undone, Fixed}
 use Rattle.saga_case.specs.Situation.{Situation}
 use Rattle.saga_json.specs.declared.faults.JsonFault.{JsonFault}
 use Rattle.saga_json.specs.declared.faults.JsonFault.TheVariants.{Kind, BadType}
@@ -22,10 +22,11 @@ state_named word =
     if bytes_eq word (codes "waiting") then Ok Waiting
     else (if bytes_eq word (codes "running") then Ok Running
     else (if bytes_eq word (codes "committed") then Ok Committed
+    else (if bytes_eq word (codes "void") then Ok Void
     else (if bytes_eq word (codes "failed") then Ok Failed
     else (if bytes_eq word (codes "undoing") then Ok Undoing
     else (if bytes_eq word (codes "undone") then Ok Undone
-    else (if bytes_eq word (codes "fixed") then Ok Fixed else Err BadType))))))
+    else (if bytes_eq word (codes "fixed") then Ok Fixed else Err BadType)))))))
 
 abbrev pub state_of : Data → Result StepState JsonFault
 state_of (string word) = state_named word

@@ -26,6 +26,7 @@ fn state_named(word: &str) -> Result<StepState, JsonFault>
         "waiting" => Ok(StepState::Waiting),
         "running" => Ok(StepState::Running),
         "committed" => Ok(StepState::Committed),
+        "void" => Ok(StepState::Void),
         "failed" => Ok(StepState::Failed),
         "undoing" => Ok(StepState::Undoing),
         "undone" => Ok(StepState::Undone),

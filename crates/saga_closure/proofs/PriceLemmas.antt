@@ -9,8 +9,8 @@ use Rattle.saga_def.specs.declared.steps.Price.TheVariants.{Of, Never}
 use Rattle.saga_def.specs.declared.steps.Step.{Step}
 use Rattle.saga_def.specs.Rules.{IsSmall, HasSmallPrices}
 use Rattle.saga_case.specs.declared.states.StepState.{StepState}
-use Rattle.saga_case.specs.declared.states.StepState.TheVariants.{Waiting, Running, Committed, Undoing, Fixed}
-use Rattle.saga_case.specs.Prices.{plus, leave_of, stand_of, IsBounded}
+use Rattle.saga_case.specs.declared.states.StepState.TheVariants.{Waiting, Running, Committed, Void, Undoing, Fixed}
+use Rattle.saga_case.specs.Prices.{plus, leave_of, stand_of, free_skip, IsBounded}
 use Rattle.saga_case.specs.Situation.{Situation, IsAtRest}
 use Rattle.saga_case.specs.Terms.{Terms, terms_of, price_by}
 use Rattle.saga_case.specs.Flow.{sum_below}
@@ -28,9 +28,14 @@ plus_bounded (Of a) (Of b) first second = omega (arith, first, second)
 plus_bounded (Of a) Never first second = tt
 plus_bounded Never q first second = tt
 
+skip_bounded : (p : Price) → IsBounded (free_skip p)
+skip_bounded (Of a) = omega arith
+skip_bounded Never = tt
+
 leave_bounded : (state : StepState) (step : Step) → HasSmallPrices step → IsBounded (leave_of state step)
 leave_bounded Running step small = tt
 leave_bounded Committed step small = plus_bounded step.undo step.skip small.undo small.skip
+leave_bounded Void step small = skip_bounded step.skip
 leave_bounded Undoing step small = tt
 leave_bounded Fixed step small = tt
 leave_bounded _ step small = small_bounded step.skip small.skip
@@ -38,6 +43,7 @@ leave_bounded _ step small = small_bounded step.skip small.skip
 stand_bounded : (aborted : Bool) (state : StepState) (step : Step) → HasSmallPrices step → IsBounded (stand_of aborted state step)
 stand_bounded false Waiting step small = plus_bounded step.run step.keep small.run small.keep
 stand_bounded aborted Committed step small = small_bounded step.keep small.keep
+stand_bounded aborted Void step small = omega arith
 stand_bounded aborted Fixed step small = small_bounded step.keep small.keep
 stand_bounded _ _ step small = tt
 

@@ -7,7 +7,8 @@ use Rattle.std.proofs.lemmas.List.{get_or-set_other, get_or-set_same, length-set
 use Rattle.std.proofs.lemmas.List.Sums.{get_or-le-sum_by, sum_by-set}
 use Rattle.saga_def.specs.Contents.{Contents}
 use Rattle.saga_case.specs.declared.states.StepState.{StepState}
-use Rattle.saga_case.specs.declared.states.StepState.TheVariants.{Waiting}
+use Rattle.saga_case.specs.declared.states.StepState.TheVariants.{Waiting, Running, Undoing}
+use Rattle.saga_case.specs.States.{commits}
 use Rattle.saga_history.specs.declared.events.Event.{Event}
 use Rattle.saga_history.specs.declared.transitions.Transition.{Transition}
 use Rattle.saga_history.specs.declared.transitions.Transition.TheVariants as transition
@@ -49,6 +50,7 @@ number_apart first stride j k some same =
 pub step_saga : (t : Transition) (i s : ℕ) → saga_of (step_event i s t) ≡ i
 step_saga transition.StartRun i s = refl
 step_saga transition.Commit i s = refl
+step_saga transition.Void i s = refl
 step_saga transition.Missed i s = refl
 step_saga transition.Fail i s = refl
 step_saga transition.StartUndo i s = refl
@@ -59,6 +61,7 @@ step_saga transition.UndoFail i s = refl
 step_change : (t : Transition) (i s : ℕ) → change_of (step_event i s t) ≡ moves s t
 step_change transition.StartRun i s = refl
 step_change transition.Commit i s = refl
+step_change transition.Void i s = refl
 step_change transition.Missed i s = refl
 step_change transition.Fail i s = refl
 step_change transition.StartUndo i s = refl
@@ -75,6 +78,7 @@ holds_from o d P is p = subst (λ v. IsSomeAnd v P) (sym is) p
 step_allowed : (shelf : List Contents) (h : List Event) (t : Transition) (i s : ℕ) → IsSomeAnd (definition shelf (changes i h)) (λ d. StepMay d (changes i h) s t) → IsAllowed shelf h (step_event i s t)
 step_allowed shelf h transition.StartRun i s may = may
 step_allowed shelf h transition.Commit i s may = may
+step_allowed shelf h transition.Void i s may = may
 step_allowed shelf h transition.Missed i s may = may
 step_allowed shelf h transition.Fail i s may = may
 step_allowed shelf h transition.StartUndo i s may = may
@@ -109,13 +113,20 @@ follow_push shelf number_of rows h e k row lt named apart follow now j below = e
       rw (changes_push_other (number_of j) h e away, get_or-set_other rows k j row no_row other) (follow j (omega (arith, length-set rows k row, below)))
 ]
 
+-- a step that counts as committed is not busy
+commits_quiet : (x : StepState) → commits x ≡ true → is_busy x ≡ false
+commits_quiet Running is = cc
+commits_quiet Undoing is = cc
+commits_quiet _ is = refl
+
 -- a transition that starts something leads from a state in which nothing is owed to one in which an end is
 start_busy : (t : Transition) (row : Row) (s : ℕ) → starts t ≡ true → RowMay row s t → (one_if (is_busy (state_at row.states s)) ≡ 0) × (one_if (is_busy (state_after t)) ≡ 1)
 start_busy transition.StartRun row s e may = (ap (λ x. one_if (is_busy x)) may.waiting, refl)
 start_busy transition.Commit row s e may = cc
+start_busy transition.Void row s e may = cc
 start_busy transition.Missed row s e may = cc
 start_busy transition.Fail row s e may = cc
-start_busy transition.StartUndo row s e may = (ap (λ x. one_if (is_busy x)) may.committed, refl)
+start_busy transition.StartUndo row s e may = (ap one_if (commits_quiet (state_at row.states s) may.committed), refl)
 start_busy transition.Undone row s e may = cc
 start_busy transition.UndoMissed row s e may = cc
 start_busy transition.UndoFail row s e may = cc
@@ -123,6 +134,7 @@ start_busy transition.UndoFail row s e may = cc
 end_busy : (t : Transition) (row : Row) (s : ℕ) → starts t ≡ false → RowMay row s t → (one_if (is_busy (state_at row.states s)) ≡ 1) × (one_if (is_busy (state_after t)) ≡ 0)
 end_busy transition.StartRun row s e may = cc
 end_busy transition.Commit row s e may = (ap (λ x. one_if (is_busy x)) may.here, refl)
+end_busy transition.Void row s e may = (ap (λ x. one_if (is_busy x)) may.here, refl)
 end_busy transition.Missed row s e may = (ap (λ x. one_if (is_busy x)) may.0.here, refl)
 end_busy transition.Fail row s e may = (ap (λ x. one_if (is_busy x)) may.0.here, refl)
 end_busy transition.StartUndo row s e may = cc
@@ -133,6 +145,7 @@ end_busy transition.UndoFail row s e may = (ap (λ x. one_if (is_busy x)) may.0.
 less_plans : (t : Transition) (turn : Turn) → plans_in_turn (turn_after_transition t turn) ≤ plans_in_turn turn
 less_plans transition.StartRun turn = omega arith
 less_plans transition.Commit turn = omega arith
+less_plans transition.Void turn = omega arith
 less_plans transition.Missed turn = omega arith
 less_plans transition.Fail turn = omega arith
 less_plans transition.StartUndo turn = omega arith

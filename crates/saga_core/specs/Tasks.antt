@@ -71,6 +71,7 @@ row_task (Plan i) = row.Plan
 abbrev pub starts : Transition → Bool
 starts transition.StartRun = true
 starts transition.Commit = false
+starts transition.Void = false
 starts transition.Missed = false
 starts transition.Fail = false
 starts transition.StartUndo = true

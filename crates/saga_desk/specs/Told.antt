@@ -41,6 +41,7 @@ IsTold may may_abort shelf h (mark.Adopt i) = Unit {0}
 IsTold may may_abort shelf h (mark.Missed i s) = EndIsTold may shelf h i s transition.Missed
 IsTold may may_abort shelf h (mark.UndoMissed i s) = EndIsTold may shelf h i s transition.UndoMissed
 IsTold may may_abort shelf h (mark.Abort i) = may_abort i
+IsTold may may_abort shelf h (mark.Void i s) = EndIsTold may shelf h i s transition.Void
 
 -- each event of a past, after the events before it
 abbrev pub AreTold : (Job → Outcome → Type 0) → (ℕ → Type 0) → List Contents → List Event → Type 0

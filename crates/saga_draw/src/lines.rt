@@ -28,6 +28,7 @@ fn look_of(state: Option<StepState>) -> &'static str
         Some(StepState::Waiting) => "shape=box style=dashed",
         Some(StepState::Running) => "shape=parallelogram style=filled fillcolor=\"#cfe3f5\"",
         Some(StepState::Committed) => "shape=box style=filled fillcolor=\"#b9dfbb\"",
+        Some(StepState::Void) => "shape=box style=\"filled,dashed\" fillcolor=\"#e0f0e0\"",
         Some(StepState::Failed) => "shape=octagon style=filled fillcolor=\"#f0aaa4\"",
         Some(StepState::Undoing) => "shape=trapezium style=filled fillcolor=\"#f2dfb0\"",
         Some(StepState::Undone) => "shape=ellipse style=\"filled,dotted\" fillcolor=\"#eeeeee\"",

@@ -19,7 +19,7 @@ use Rattle.saga_order.specs.Rank.{IsRank}
 use Rattle.saga_order.specs.Shape.{shape_of}
 use Rattle.saga_order.proofs.LawLemmas.{ordered_from_sound, ranks_rise, steps_are_ranked}
 use Rattle.saga_case.specs.Flow.{Flow, IsConserved, carried, into_step, out_of_step, sum_below, value_of}
-use Rattle.saga_case.specs.Prices.{leave_of, plus, stand_of}
+use Rattle.saga_case.specs.Prices.{free_skip, leave_of, plus, stand_of}
 use Rattle.saga_case.specs.Right.{IsRight, IsRightPlan, flow_of}
 use Rattle.saga_case.specs.Situation.{Situation}
 use Rattle.saga_case.specs.Terms.{Terms, cost_of, price_by, price_in, prices_below, terms_of}
@@ -27,7 +27,7 @@ use Rattle.saga_case.specs.declared.answers.Answer.{Answer}
 use Rattle.saga_case.specs.declared.answers.Answer.TheVariants as answer
 use Rattle.saga_case.specs.declared.answers.Plan.{Plan}
 use Rattle.saga_case.specs.declared.states.StepState.{StepState}
-use Rattle.saga_case.specs.declared.states.StepState.TheVariants.{Waiting, Running, Committed, Failed, Undoing, Undone, Fixed}
+use Rattle.saga_case.specs.declared.states.StepState.TheVariants.{Waiting, Running, Committed, Void, Failed, Undoing, Undone, Fixed}
 use Rattle.saga_case.proofs.SumLemmas.{sum_add, sum_le, sum_one, sum_same, sum_zero}
 use Rattle.saga_history.proofs.TurnLemmas.{any_step}
 use Rattle.saga_drive.specs.Room.{all_costs, amount_of, costs_in, most_digits, step_costs}
@@ -192,11 +192,16 @@ just : (p : Price) (c : ℕ) → p ≡ Of c → c ≡ amount_of p
 just (Of a) c is = omega (arith, of_same a c is)
 just Never c is = absurd (of_never c is)
 
+skipped : (p : Price) (c : ℕ) → free_skip p ≡ Of c → c ≡ 0
+skipped (Of a) c is = omega (arith, of_same 0 c is)
+skipped Never c is = absurd (of_never c is)
+
 stand_within : (ab : Bool) (x : StepState) (step : Step) (c : ℕ) → stand_of ab x step ≡ Of c → c ≤ step_costs step
 stand_within false Waiting step c is = omega (arith, plus_is step.run step.keep c is)
 stand_within true Waiting step c is = absurd (of_never c is)
 stand_within ab Running step c is = absurd (of_never c is)
 stand_within ab Committed step c is = omega (arith, just step.keep c is)
+stand_within ab Void step c is = omega (arith, of_same 0 c is)
 stand_within ab Failed step c is = absurd (of_never c is)
 stand_within ab Undoing step c is = absurd (of_never c is)
 stand_within ab Undone step c is = absurd (of_never c is)
@@ -206,6 +211,7 @@ leave_within : (x : StepState) (step : Step) (c : ℕ) → leave_of x step ≡ O
 leave_within Waiting step c is = omega (arith, just step.skip c is)
 leave_within Running step c is = absurd (of_never c is)
 leave_within Committed step c is = omega (arith, plus_is step.undo step.skip c is)
+leave_within Void step c is = omega (arith, skipped step.skip c is)
 leave_within Failed step c is = omega (arith, just step.skip c is)
 leave_within Undoing step c is = absurd (of_never c is)
 leave_within Undone step c is = omega (arith, just step.skip c is)

@@ -4,7 +4,7 @@ use Rattle.std.proofs.lemmas.Bool.{cases_lt, eq-eqb}
 use Rattle.saga_def.specs.Contents.{Contents}
 use Rattle.saga_history.specs.declared.events.Event.{Event}
 use Rattle.saga_history.specs.declared.transitions.Transition.{Transition}
-use Rattle.saga_history.specs.declared.transitions.Transition.TheVariants.{StartRun, Commit, Missed, Fail, StartUndo, Undone, UndoMissed, UndoFail}
+use Rattle.saga_history.specs.declared.transitions.Transition.TheVariants.{StartRun, Commit, Void, Missed, Fail, StartUndo, Undone, UndoMissed, UndoFail}
 use Rattle.saga_history.specs.Changes.{Change, opens, moves, starts_plan, drops_plan, adopts, aborts, change_of, changes, past, saga_of, step_event}
 use Rattle.saga_history.specs.Rules.{IsAllowedChange, SagaMay, definition_at}
 use Rattle.saga_history.specs.Turns.{opened_with}
@@ -68,6 +68,7 @@ known b e i of may unknown =
 pub saga_of-step_event : (i s : ℕ) (t : Transition) → saga_of (step_event i s t) ≡ i
 saga_of-step_event i s StartRun = refl
 saga_of-step_event i s Commit = refl
+saga_of-step_event i s Void = refl
 saga_of-step_event i s Missed = refl
 saga_of-step_event i s Fail = refl
 saga_of-step_event i s StartUndo = refl

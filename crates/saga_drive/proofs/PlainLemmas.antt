@@ -17,7 +17,7 @@ use Rattle.saga_json.proofs.TextLemmas.{json_of-read}
 use Rattle.saga_history.specs.declared.tasks.Kind.{Kind}
 use Rattle.saga_history.specs.declared.tasks.Kind.TheVariants.{Run, Undo}
 use Rattle.saga_history.specs.declared.tasks.Outcome.{Outcome}
-use Rattle.saga_history.specs.declared.tasks.Outcome.TheVariants.{Done, Failed}
+use Rattle.saga_history.specs.declared.tasks.Outcome.TheVariants.{Done, Void, Failed}
 use Rattle.saga_log.proofs.ValueLemmas.{read-compact}
 use Rattle.saga_drive.specs.declared.openings.Wanted.TheVariants.{Index}
 use Rattle.saga_drive.specs.declared.requests.Request.{Request}
@@ -144,6 +144,7 @@ one-line line a p q = rw (p, q) one-request
 
 outcome_word : Outcome → List ℕ
 outcome_word Done = codes "ok"
+outcome_word Void = codes "void"
 outcome_word Failed = codes "fail"
 
 report_form : Outcome → ℕ → ℕ → Data
@@ -159,11 +160,13 @@ report_text outcome saga step = codes "{" ++ told_text outcome saga step (codes 
 report-text : (outcome : Outcome) (saga step : ℕ) → report_text outcome saga step ≡ compact_text (report_form outcome saga step)
 unfolding report_text report_form outcome_word escape_byte
 report-text Done saga step = refl
+report-text Void saga step = refl
 report-text Failed saga step = refl
 
 outcome-utf8 : (outcome : Outcome) → is_utf8 (outcome_text outcome) ≡ true
 unfolding is_utf8 chars encode
 outcome-utf8 Done = refl
+outcome-utf8 Void = refl
 outcome-utf8 Failed = refl
 
 told_then : (outcome : Outcome) (saga step : ℕ) (rest : List ℕ) → saga < 2 ^ 64 → step < 2 ^ 64 → IsUtf8 rest → IsUtf8 (told_text outcome saga step rest)
@@ -178,6 +181,7 @@ report-utf8 outcome saga step h k = piece_then (codes "{") _ refl (told_then out
 report-value : (outcome : Outcome) (saga step : ℕ) → saga < 2 ^ 32 → step < 2 ^ 16 → request_of (report_form outcome saga step) ≡ Ok (request.Report saga step None outcome)
 unfolding report_form outcome_word request_of_verb keys_fit
 report-value Done saga step h k = rw (small32 saga h, small16 step k)
+report-value Void saga step h k = rw (small32 saga h, small16 step k)
 report-value Failed saga step h k = rw (small32 saga h, small16 step k)
 
 report-request : (outcome : Outcome) (saga step : ℕ) → saga < 2 ^ 32 → step < 2 ^ 16 → request_of_text (report_text outcome saga step) ≡ Ok (request.Report saga step None outcome)
@@ -213,6 +217,8 @@ attempt-text : (attempt : ℕ) (outcome : Outcome) (saga step : ℕ) (kind : Kin
 unfolding attempt_text attempt_form outcome_word kind_name escape_byte
 attempt-text attempt Done saga step Run = refl
 attempt-text attempt Done saga step Undo = refl
+attempt-text attempt Void saga step Run = refl
+attempt-text attempt Void saga step Undo = refl
 attempt-text attempt Failed saga step Run = refl
 attempt-text attempt Failed saga step Undo = refl
 
@@ -231,6 +237,8 @@ attempt-value : (attempt : ℕ) (outcome : Outcome) (saga step : ℕ) (kind : Ki
 unfolding attempt_form outcome_word kind_name request_of_verb keys_fit
 attempt-value attempt Done saga step Run h k l = rw (small16 attempt h, small32 saga k, small16 step l)
 attempt-value attempt Done saga step Undo h k l = rw (small16 attempt h, small32 saga k, small16 step l)
+attempt-value attempt Void saga step Run h k l = rw (small16 attempt h, small32 saga k, small16 step l)
+attempt-value attempt Void saga step Undo h k l = rw (small16 attempt h, small32 saga k, small16 step l)
 attempt-value attempt Failed saga step Run h k l = rw (small16 attempt h, small32 saga k, small16 step l)
 attempt-value attempt Failed saga step Undo h k l = rw (small16 attempt h, small32 saga k, small16 step l)
 

@@ -9,7 +9,7 @@ use Rattle.saga_json.specs.Keys.{has_key, keys_fit}
 use Rattle.saga_json.specs.Reads.{◌>>=◌, Gives}
 use Rattle.saga_json.specs.Texts.{json_of}
 use Rattle.saga_history.specs.declared.tasks.Outcome.{Outcome}
-use Rattle.saga_history.specs.declared.tasks.Outcome.TheVariants.{Done, Failed}
+use Rattle.saga_history.specs.declared.tasks.Outcome.TheVariants.{Done, Void, Failed}
 use Rattle.saga_history.specs.declared.tasks.Phase.{Phase}
 use Rattle.saga_history.specs.declared.tasks.Phase.TheVariants as phase
 use Rattle.saga_drive.specs.declared.verbs.Verb.{Verb}
@@ -29,7 +29,8 @@ max_request = 65536
 abbrev pub outcome_named : List ℕ → Result Outcome JsonFault
 outcome_named word =
     if bytes_eq word (codes "ok") then Ok Done
-    else (if bytes_eq word (codes "fail") then Ok Failed else Err BadType)
+    else (if bytes_eq word (codes "void") then Ok Void
+    else (if bytes_eq word (codes "fail") then Ok Failed else Err BadType))
 
 abbrev pub outcome_of : Data → Result Outcome JsonFault
 outcome_of (string word) = outcome_named word

@@ -82,13 +82,14 @@ fn u16_after<'a>(line: &'a [u8], piece: &str) -> Option<(u16, &'a [u8])>
 fn outcome_first(line: &[u8]) -> Option<(Outcome, &[u8])>
     ensures { IfSome result (λ cut. line.entry.now ≡ outcome_text cut.0 ++ cut.1.now) }
 {
-    match after(line, "\"do\":\"report\",\"outcome\":\"ok\"") {
-        Some(rest) => Some((Outcome::Done, rest)),
-        None => Some((
-            Outcome::Failed,
-            after(line, "\"do\":\"report\",\"outcome\":\"fail\"")?,
-        )),
+    if let Some(rest) = after(line, "\"do\":\"report\",\"outcome\":\"ok\"") {
+        return Some((Outcome::Done, rest));
     }
+    if let Some(rest) = after(line, "\"do\":\"report\",\"outcome\":\"void\"") {
+        return Some((Outcome::Void, rest));
+    }
+    let rest = after(line, "\"do\":\"report\",\"outcome\":\"fail\"")?;
+    Some((Outcome::Failed, rest))
 }
 
 /// Returns the outcome, the saga and the step of a report, and the rest of the line.

@@ -78,6 +78,7 @@ fn outcome_named(word: &str) -> Result<Outcome, JsonFault>
 {
     match word {
         "ok" => Ok(Outcome::Done),
+        "void" => Ok(Outcome::Void),
         "fail" => Ok(Outcome::Failed),
         _ => Err(JsonFault::BadType),
     }

@@ -11,6 +11,7 @@ use Rattle.saga_fleet.specs.declared.events.Stage.TheVariants.{Idle, Done, Refus
 use Rattle.saga_fleet.specs.declared.watch.Now.{Now}
 use Rattle.saga_fleet.specs.declared.watch.Tally.{Tally}
 use Rattle.saga_fleet.specs.Fleet.{AreAllowed, Chunk, IsAllowed, IsDone, IsIdle, IsSent, Log, Move, Session, answered, at_stage, happens, nobody, nothing, rules, run, sent, session}
+use Rattle.saga_fleet.specs.Order.{IsFirstReason}
 use Rattle.saga_fleet.specs.Records.{AreCounts, CountFails, DeedFails, Fails, IsFirstFault, Fits, FitsDeed, IsRecordFrom, May, MayFollow, any, blank, deed_of, did, digest_of, digests, digests_after, digests_of, log_after, move_of, now_after, now_of, only, tallies_after, tallies_of, tally}
 use Rattle.saga_fleet.specs.Told.{Holds, HoldsUnlessCut}
 use Rattle.std.proofs.lemmas.Bool.{false≢true}
@@ -225,16 +226,16 @@ module _ (b : Bool) (es : List Event) (i : ℕ) (now : Now) (ds : List ℕ) (ts 
   abbrev log_there : Log
   log_there = log_after b nothing (take i es)
 
-  pub fault : (r : Reason) → Fails b now ds ts there r → IsFirstFault b es i r
+  pub fault : (r : Reason) → IsFirstReason (Fails b now ds ts there) r → IsFirstFault b es i r
   fault r fails =
-      let here = said_of (λ n l t. Fails b n l t there r) now ds ts log_there are fails in
+      let here = said_of (λ n l t. IsFirstReason (Fails b n l t there) r) now ds ts log_there are fails in
       record {
         inside = lt;
         before = before;
         fails = here;
         denied = λ rec.
             let last = record_last b nothing (take i es) there (subst (IsRecordFrom b nothing) (take_more es i (TookOver 0 0 0) lt) rec) in
-            denied b (now_of log_there) (digests_of log_there) (tallies_of log_there) there r here (follows b log_there there last.0 last.1);
+            denied b (now_of log_there) (digests_of log_there) (tallies_of log_there) there r here.here (follows b log_there there last.0 last.1);
       }
 
   pub goes_on : MayFollow b now ds ts there

@@ -1,7 +1,9 @@
+pub mod ByKey
 pub mod Fleet
 pub mod Limits
 pub mod Lines
 pub mod Needed
+pub mod Order
 pub mod Records
 pub mod Told
 pub mod Words

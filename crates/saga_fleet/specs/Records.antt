@@ -11,6 +11,7 @@ use Rattle.saga_fleet.specs.declared.events.Stage.TheVariants.{Idle, Sent, Done,
 use Rattle.saga_fleet.specs.declared.watch.Now.{Now}
 use Rattle.saga_fleet.specs.declared.watch.Tally.{Tally}
 use Rattle.saga_fleet.specs.Fleet.{Chunk, IsAllowed, IsDone, IsIdle, IsSent, Log, Move, Session, happens, nothing, rules, session}
+use Rattle.saga_fleet.specs.Order.{IsFirstReason}
 use Rattle.saga_fleet.specs.declared.events.Deed.TheVariants.{Decided, Written, TurnedDown, Heard, Told}
 use Rattle.saga_fleet.specs.declared.events.Event.TheVariants.{TookOver, Did, Shipped, FailedOver}
 use Rattle.saga_fleet.specs.Fleet.Move.{Answers, Commits, Fails_over, Refuses, Sends, Ships, Takes_over, Tells}
@@ -174,13 +175,13 @@ Fails b now ds ts (Shipped n) reason = CountFails now ds n reason
 Fails b now ds ts (FailedOver n epoch) reason = CountFails now ds n reason
 Fails b now ds ts e reason = ⊥
 
--- there is no reason, and the event is allowed; or there is a reason, and its condition fails
+-- there is no reason, and the event is allowed; or it is the first reason whose condition fails
 abbrev pub Says : Option Reason → Type 0 → (Reason → Type 0) → Type 0
 Says None may fails = may
-Says (Some reason) may fails = fails reason
+Says (Some reason) may fails = IsFirstReason fails reason
 
--- whether the result is yes; and the first event that is not allowed, with a reason whose condition fails for the log
--- before the event
+-- whether the result is yes; and the first event that is not allowed, with the first reason whose condition fails for
+-- the log before the event
 abbrev pub is_yes : RecordAnswer → Bool
 is_yes (Yes sessions chunks failovers events) = true
 is_yes (No position reason) = false
@@ -188,8 +189,8 @@ is_yes (No position reason) = false
 pub record IsFirstFault (b : Bool) (es : List Event) (position : ℕ) (reason : Reason) : Type 0 where
   pub inside : position < length es
   pub before : IsRecordFrom b nothing (take position es)
-  pub fails : Fails b (now_of (log_after b nothing (take position es))) (digests_of (log_after b nothing (take position es)))
-      (tallies_of (log_after b nothing (take position es))) (get_or es position (TookOver 0 0 0)) reason
+  pub fails : IsFirstReason (Fails b (now_of (log_after b nothing (take position es))) (digests_of (log_after b nothing (take position es)))
+      (tallies_of (log_after b nothing (take position es))) (get_or es position (TookOver 0 0 0))) reason
   pub denied : IsRecordFrom b nothing (take (position + 1) es) → ⊥
 
 -- the numbers of sessions that began, of chunks in the log at the end, of failovers, and of events

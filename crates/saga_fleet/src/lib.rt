@@ -16,8 +16,8 @@ mod watch;
 pub use answers::RecordAnswer;
 pub use events::{Deed, Event, Stage};
 pub use laws::{
-    answers_may_be_sent, book_survives_on_many_nodes, each_rule_is_needed, the_key_alone_does,
-    told_survives_on_many_nodes,
+    a_record_has_one_answer, answers_may_be_sent, book_survives_on_many_nodes, each_rule_is_needed,
+    the_key_alone_does, the_key_compares_no_epoch, told_survives_on_many_nodes,
 };
 pub use limits::MAX_RECORD;
 pub use lines::{LineFault, Record, read_record};

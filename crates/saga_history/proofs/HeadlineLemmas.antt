@@ -9,7 +9,7 @@ use Rattle.saga_def.specs.Order.{IsClosed}
 use Rattle.saga_case.specs.declared.answers.Answer.{Answer}
 use Rattle.saga_case.specs.declared.answers.Answer.TheVariants as answer
 use Rattle.saga_case.specs.declared.states.StepState.{StepState}
-use Rattle.saga_case.specs.declared.states.StepState.TheVariants.{Waiting, Committed, Failed, Undone, Fixed}
+use Rattle.saga_case.specs.declared.states.StepState.TheVariants.{Waiting, Committed, Void, Failed, Undone, Fixed}
 use Rattle.saga_def.specs.declared.steps.Price.TheVariants.{Never}
 use Rattle.saga_case.specs.Prices.{stand_of}
 use Rattle.saga_case.specs.Terms.{terms_of, price_in}
@@ -72,6 +72,7 @@ goal_closed d (_ ∷ l) legal = goal_closed d l legal.1
 
 stands_once : (x : StepState) (c u : ℕ) → IsTrue (is_standing x) → c ≡ one (has_committed x) → u ≡ one (has_undone x) → (c ≡ 1) × (u ≡ 0)
 stands_once Committed c u t p q = (p, q)
+stands_once Void c u t p q = (p, q)
 stands_once Fixed c u t p q = (p, q)
 stands_once _ c u t p q = cc
 

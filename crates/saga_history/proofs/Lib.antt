@@ -1,5 +1,6 @@
 -- Lemmas on histories.
 pub mod SagaLemmas
+pub mod VoidLemmas
 pub mod TransitionLemmas
 pub mod ChangeLemmas
 pub mod NeedLemmas

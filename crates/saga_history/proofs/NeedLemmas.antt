@@ -4,14 +4,15 @@ use Rattle.std.specs.Prelude.{IsTrue}
 use Rattle.saga_def.specs.Contents.{Contents}
 use Rattle.saga_def.specs.Order.{NeedsDirectly}
 use Rattle.saga_case.specs.declared.states.StepState.{StepState}
-use Rattle.saga_case.specs.declared.states.StepState.TheVariants.{Waiting, Running, Committed, Failed, Undoing, Undone, Fixed}
+use Rattle.saga_case.specs.declared.states.StepState.TheVariants.{Waiting, Running, Committed, Void, Failed, Undoing, Undone, Fixed}
 use Rattle.saga_history.specs.declared.transitions.Transition.{Transition}
 use Rattle.saga_history.specs.declared.transitions.Transition.TheVariants as transition
 use Rattle.saga_history.specs.Changes.{Change, moves}
-use Rattle.saga_history.specs.States.{state_before, state_after, state, is_standing, is_off}
+use Rattle.saga_history.specs.States.{state_before, state_after, unvoided, state, is_standing, is_off}
 use Rattle.saga_history.specs.Rules.{MeetsCondition}
 use Rattle.saga_history.proofs.SagaLemmas.{IsLegalUnder}
 use Rattle.saga_history.specs.Tallies.{has_committed, SuitsNeed}
+use Rattle.saga_history.proofs.VoidLemmas.{is_standing-unvoided, is_off-unvoided, user_unvoided, needed_unvoided}
 use Rattle.saga_history.proofs.ChangeLemmas.{LeavesOrMoves, leaves_or_moves, legal_tail, step_may}
 
 -- running, committed, undoing or fixed: what the step needs must stand
@@ -27,6 +28,7 @@ is_waiting _ = false
 
 stood : (a : StepState) → IsTrue (is_standing a) → IsTrue (has_committed a)
 stood Committed t = refl
+stood Void t = refl
 stood Fixed t = refl
 stood _ t = cc
 
@@ -87,18 +89,19 @@ pairs_step : (d : Contents) (e : Change) (l : List Change) → IsLegalUnder d (e
 pairs_step d e l legal b a need (inl p) (inl q) fit = rw (p.stays, q.stays) fit
 pairs_step d e l legal b a need (inr p) (inl q) fit =
     let may = step_may d e l b p.move legal p.is in
-    rw (p.grows, q.stays) (user_moves p.move (state l b) (state l a) may.begins (starts_standing d l b a p.move need may.condition) fit)
+    rw (p.grows, q.stays) (user_moves p.move (unvoided (state l b)) (state l a) may.begins (starts_standing d l b a p.move need may.condition) (user_unvoided (state l b) (state l a) fit))
 pairs_step d e l legal b a need (inl p) (inr q) fit =
     let may = step_may d e l a q.move legal q.is in
-    rw (p.stays, q.grows) (needed_moves (state l b) (state l a) q.move may.begins (undo_off d l a b q.move need may.condition) fit)
+    rw (p.stays, q.grows) (needed_moves (state l b) (unvoided (state l a)) q.move may.begins (undo_off d l a b q.move need may.condition) (needed_unvoided (state l b) (state l a) fit))
 pairs_step d e l legal b a need (inr p) (inr q) fit =
     let may = step_may d e l b p.move legal p.is in
     let same : a ≡ b = same_step b a p.move q.move e p.is q.is in
     let self : NeedsDirectly d.needs b b = subst (λ (v : ℕ). NeedsDirectly d.needs b v) same need in
-    absurd (itself (state l b) p.move may.begins
-    (starts_standing d l b b p.move self may.condition)
-    (undo_off d l b b p.move self may.condition)
-    (subst (λ (v : ℕ). SuitsNeed (state l b) (state l v)) same fit))
+    absurd (itself (unvoided (state l b)) p.move may.begins
+    (λ is. is_standing-unvoided (state l b) ∙ starts_standing d l b b p.move self may.condition is)
+    (λ is. is_off-unvoided (state l b) ∙ undo_off d l b b p.move self may.condition is)
+    (needed_unvoided (unvoided (state l b)) (state l b) (user_unvoided (state l b) (state l b)
+    (subst (λ (v : ℕ). SuitsNeed (state l b) (state l v)) same fit))))
 
 pub pairs : (d : Contents) (l : List Change) → IsLegalUnder d l → (b a : ℕ) → NeedsDirectly d.needs b a → SuitsNeed (state l b) (state l a)
 pairs d [] legal b a need = tt

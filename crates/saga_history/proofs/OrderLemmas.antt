@@ -6,15 +6,16 @@ use Rattle.saga_def.specs.declared.steps.Need.{Need}
 use Rattle.saga_def.specs.Contents.{Contents}
 use Rattle.saga_def.specs.Order.{NeedsDirectly, Leads, Precedes}
 use Rattle.saga_case.specs.declared.states.StepState.{StepState}
-use Rattle.saga_case.specs.declared.states.StepState.TheVariants.{Waiting, Committed, Failed, Undoing, Undone, Fixed}
+use Rattle.saga_case.specs.declared.states.StepState.TheVariants.{Waiting, Committed, Void, Failed, Undoing, Undone, Fixed}
 use Rattle.saga_history.specs.declared.transitions.Transition.{Transition}
 use Rattle.saga_history.specs.declared.transitions.Transition.TheVariants as transition
 use Rattle.saga_history.specs.Changes.{Change, moves}
-use Rattle.saga_history.specs.States.{same_transition, state_before, state_after, state, is_standing, is_off}
+use Rattle.saga_history.specs.States.{same_transition, state_before, state_after, unvoided, state, is_standing, is_off}
 use Rattle.saga_history.specs.Rules.{StepMay}
 use Rattle.saga_history.specs.Headline.{starts_undo_of, before_last}
 use Rattle.saga_history.proofs.SagaLemmas.{IsLegalUnder}
 use Rattle.saga_history.specs.Tallies.{has_committed, has_undone, SuitsNeed}
+use Rattle.saga_history.proofs.VoidLemmas.{itself_but_committed, has_committed-unvoided}
 use Rattle.saga_history.proofs.ChangeLemmas.{LeavesStep, LeavesOrMoves, leaves_or_moves, moved_state, legal_tail, step_may}
 use Rattle.saga_history.proofs.NeedLemmas.{is_active, pairs, undo_off}
 
@@ -26,6 +27,7 @@ active_stands _ a t fit = fit
 
 pub stands_active : (a : StepState) → is_standing a ≡ true → is_active a ≡ true
 stands_active Committed t = refl
+stands_active Void t = refl
 stands_active Fixed t = refl
 stands_active _ t = cc
 
@@ -69,6 +71,10 @@ undone_from : (x : StepState) → is_active x ≡ false → has_committed x ≡ 
 undone_from Undone a c = refl
 undone_from _ a c = cc
 
+is_active-unvoided : (x : StepState) → is_active (unvoided x) ≡ is_active x
+is_active-unvoided Void = refl
+is_active-unvoided _ = refl
+
 was_active : (m : Transition) (z : StepState) → z ≡ state_before m → has_committed (state_after m) ≡ true → is_active z ≡ true
 was_active transition.StartRun z f c = cc
 was_active transition.Missed z f c = cc
@@ -94,7 +100,7 @@ q_stays : (d : Contents) (e : Change) (l : List Change) → IsLegalUnder d (e �
 q_stays d e l legal p q order leaving (inl quiet) committed = rw quiet.stays at committed
 q_stays d e l legal p q order leaving (inr t) committed =
     let x : has_committed (state_after t.move) ≡ true = rw t.grows at committed in
-    let act = was_active t.move (state l q) (step_may d e l q t.move legal t.is).begins x in
+    let act : is_active (state l q) ≡ true = sym (is_active-unvoided (state l q)) ∙ was_active t.move (unvoided (state l q)) (step_may d e l q t.move legal t.is).begins x in
     absurd (leaving_down (state l p) leaving (held d l (legal_tail d e l legal) p q order act))
 
 -- the change leaves p
@@ -104,11 +110,11 @@ p_stays d e l legal p q order quiet rec = λ leaving committed.
     rw quiet.silent (rec now (q_stays d e l legal p q order now (leaves_or_moves q e l) committed))
 
 -- as p begins to leave, q has committed before
-had : (d : Contents) (e : Change) (l : List Change) (p q : ℕ) → state l p ≡ Committed → e ≡ moves p transition.StartUndo → LeavesOrMoves q e l → has_committed (state (e ∷ l) q) ≡ true → has_committed (state l q) ≡ true
+had : (d : Contents) (e : Change) (l : List Change) (p q : ℕ) → unvoided (state l p) ≡ Committed → e ≡ moves p transition.StartUndo → LeavesOrMoves q e l → has_committed (state (e ∷ l) q) ≡ true → has_committed (state l q) ≡ true
 had d e l p q was is (inl quiet) committed = rw quiet.stays at committed
 had d e l p q was is (inr t) committed =
     let same : q ≡ p = let both = sym t.is ∙ is in cc in
-    ap has_committed (ap (state l) same ∙ was)
+    ap (λ v. has_committed (state l v)) same ∙ sym (has_committed-unvoided (state l p)) ∙ ap has_committed was
 
 -- p moves
 p_moves : (d : Contents) (e : Change) (l : List Change) → IsLegalUnder d (e ∷ l) → (p q : ℕ) → Precedes d.needs p q → (m : Transition) → StepMay d l p m → state (e ∷ l) p ≡ state_after m → starts_undo_of p e ≡ same_transition transition.StartUndo m → e ≡ moves p m → WasUndoneBefore l p q → WasUndoneBefore (e ∷ l) p q
@@ -116,7 +122,7 @@ p_moves d e l legal p q order transition.StartUndo may now begins is rec = λ le
     let quiet : is_active (state l q) ≡ false = false_from_ne_true _ (dependants_off d l (legal_tail d e l legal) p q order (λ b need. undo_off d l p b transition.StartUndo need may.condition refl)) in
     rw begins (undone_from (state l q) quiet (had d e l p q may.begins is (leaves_or_moves q e l) committed))
 p_moves d e l legal p q order transition.Undone may now begins is rec = λ leaving committed.
-    let going : is_leaving (state l p) ≡ true = ap is_leaving may.begins in
+    let going : is_leaving (state l p) ≡ true = ap is_leaving (itself_but_committed (state l p) Undoing (λ is. cc) may.begins) in
     rw begins (rec going (q_stays d e l legal p q order going (leaves_or_moves q e l) committed))
 p_moves d e l legal p q order m may now begins is rec = λ leaving committed. let t : is_leaving (state_after m) ≡ true = ap is_leaving (sym now) ∙ leaving in cc
 

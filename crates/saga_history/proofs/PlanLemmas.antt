@@ -11,8 +11,8 @@ use Rattle.saga_case.specs.declared.answers.Answer.{Answer}
 use Rattle.saga_case.specs.declared.answers.Answer.TheVariants as answer
 use Rattle.saga_case.specs.declared.answers.Plan.{Plan}
 use Rattle.saga_case.specs.declared.states.StepState.{StepState}
-use Rattle.saga_case.specs.declared.states.StepState.TheVariants.{Waiting, Running, Committed, Failed, Undoing, Undone, Fixed}
-use Rattle.saga_case.specs.Prices.{plus, stand_of, leave_of}
+use Rattle.saga_case.specs.declared.states.StepState.TheVariants.{Waiting, Running, Committed, Void, Failed, Undoing, Undone, Fixed}
+use Rattle.saga_case.specs.Prices.{plus, stand_of, leave_of, free_skip}
 use Rattle.saga_case.specs.Terms.{terms_of, prices_below, price_in}
 use Rattle.saga_case.specs.Right.{IsRight, IsRightPlan}
 use Rattle.saga_case.proofs.ClosedLemmas.{closed_direct, closed_from_direct}
@@ -20,7 +20,7 @@ use Rattle.saga_history.specs.declared.events.Event.{Event}
 use Rattle.saga_history.specs.declared.transitions.Transition.{Transition}
 use Rattle.saga_history.specs.declared.transitions.Transition.TheVariants as transition
 use Rattle.saga_history.specs.Changes.{Change, opens, moves, starts_plan, drops_plan, adopts, aborts, changes}
-use Rattle.saga_history.specs.States.{same_transition, state_before, state_after, state, is_busy, is_standing}
+use Rattle.saga_history.specs.States.{same_transition, state_before, state_after, unvoided, state, is_busy, is_standing}
 use Rattle.saga_history.specs.Turns.{aborted, present_case, goal}
 use Rattle.saga_history.specs.Rules.{StepMay, IsLegal}
 use Rattle.saga_history.specs.Plans.{is_plan, plan_in_force, NoKeepIsNever, SomeSetIsAllowed, PlansLeaveAWay}
@@ -35,6 +35,7 @@ abbrev IsPriced : Bool → Step → Bool → StepState → Type 0
 IsPriced ab step true Waiting = (ab ≡ false) × (step.run ≢ Never)
 IsPriced ab step true Running = (ab ≡ false) × (step.run ≢ Never)
 IsPriced ab step true Committed = Unit {0}
+IsPriced ab step true Void = Unit {0}
 IsPriced ab step true Failed = ⊥
 IsPriced ab step true Undoing = ⊥
 IsPriced ab step true Undone = ⊥
@@ -43,10 +44,16 @@ IsPriced ab step false Running = ⊥
 IsPriced ab step false Fixed = Unit {0}
 IsPriced ab step false _ = step.skip ≢ Never
 
+priced_unvoided : (ab : Bool) (step : Step) (b : Bool) (x : StepState) → IsPriced ab step b x → IsPriced ab step b (unvoided x)
+priced_unvoided ab step true Void was = was
+priced_unvoided ab step false Void was = was
+priced_unvoided ab step b _ was = was
+
 priced_move : (ab : Bool) (step : Step) (b : Bool) (z : StepState) (m : Transition) → z ≡ state_before m → (m ≡ transition.StartRun → b ≡ true) → (m ≡ transition.StartUndo → b ≡ false) → (m ≡ transition.Fail → ⊥) → IsPriced ab step b z → IsPriced ab step b (state_after m)
 priced_move ab step true z transition.StartRun f starting undo fail was = let w : IsPriced ab step true Waiting = rw f at was in w
 priced_move ab step false z transition.StartRun f starting undo fail was = let e = starting refl in cc
 priced_move ab step false z transition.Commit f starting undo fail was = let w : IsPriced ab step false Running = rw f at was in absurd w
+priced_move ab step false z transition.Void f starting undo fail was = let w : IsPriced ab step false Running = rw f at was in absurd w
 priced_move ab step true z transition.Missed f starting undo fail was = let w : IsPriced ab step true Running = rw f at was in w
 priced_move ab step false z transition.Missed f starting undo fail was = let w : IsPriced ab step false Running = rw f at was in absurd w
 priced_move ab step b z transition.Fail f starting undo fail was = absurd (fail refl)
@@ -71,6 +78,10 @@ plus_both (Of a) (Of b) p q e = cc
 plus_both (Of a) Never p q e = q refl
 plus_both Never q p r e = p refl
 
+skip_number : (p : Price) → free_skip p ≢ Never → p ≢ Never
+skip_number (Of a) some e = cc
+skip_number Never some e = some refl
+
 waits_stand : (ab : Bool) (step : Step) → stand_of ab Waiting step ≢ Never → (ab ≡ false) × (step.run ≢ Never)
 waits_stand true step some = absurd (some refl)
 waits_stand false step some = (refl, plus_left step.run step.keep some)
@@ -79,6 +90,7 @@ priced_stand : (ab : Bool) (x : StepState) (step : Step) → is_busy x ≡ false
 priced_stand ab Waiting step q p = waits_stand ab step p
 priced_stand ab Running step q p = cc
 priced_stand ab Committed step q p = tt
+priced_stand ab Void step q p = tt
 priced_stand ab Failed step q p = absurd (p (stand_failed ab step))
 priced_stand ab Undoing step q p = cc
 priced_stand ab Undone step q p = absurd (p (stand_undone ab step))
@@ -87,6 +99,7 @@ priced_stand ab Fixed step q p = tt
 priced_leave : (ab : Bool) (x : StepState) (step : Step) → is_busy x ≡ false → leave_of x step ≢ Never → IsPriced ab step false x
 priced_leave ab Running step q p = cc
 priced_leave ab Committed step q p = plus_right step.undo step.skip p
+priced_leave ab Void step q p = skip_number step.skip p
 priced_leave ab Undoing step q p = cc
 priced_leave ab Fixed step q p = tt
 priced_leave ab _ step q p = p
@@ -103,10 +116,10 @@ forced_move : (d : Contents) (l : List Change) (r : ℕ) (t : Transition) → St
 forced_move d l r t may quiet forced = λ s lt. elim (cases_Bool (eqb s r)) [
   | inl own ↦
       let at : s ≡ r = eqb-true s r own in
-      rw own (priced_move (aborted l) (step_at d s) (goal l s) (state l s) t (ap (state l) at ∙ may.begins)
+      rw own (priced_move (aborted l) (step_at d s) (goal l s) (unvoided (state l s)) t (ap (λ v. unvoided (state l v)) at ∙ may.begins)
       (λ is. ap (goal l) at ∙ starts_in_goal d l r t may is)
       (λ is. ap (goal l) at ∙ undo_off_goal d l r t may is)
-      quiet (forced s lt))
+      quiet (priced_unvoided (aborted l) (step_at d s) (goal l s) (state l s) (forced s lt)))
   | inr other ↦ rw other (forced s lt)
 ]
 
@@ -156,6 +169,11 @@ stand_committed : (ab : Bool) (step : Step) → stand_of ab Committed step ≡ s
 stand_committed true step = refl
 stand_committed false step = refl
 
+-- a void step has a number for its price
+stand_void : (ab : Bool) (step : Step) → stand_of ab Void step ≢ Never
+stand_void true step e = cc
+stand_void false step e = cc
+
 stand_fixed : (ab : Bool) (step : Step) → stand_of ab Fixed step ≡ step.keep
 stand_fixed true step = refl
 stand_fixed false step = refl
@@ -168,9 +186,11 @@ price_of : (ab : Bool) (step : Step) (b : Bool) (x : StepState) → is_busy x �
 price_of ab step true Waiting q keep f = λ e. plus_both step.run step.keep f.1 keep (sym (stand_waiting ab step f.0) ∙ e)
 price_of ab step true Running q keep f = cc
 price_of ab step true Committed q keep f = λ e. keep (sym (stand_committed ab step) ∙ e)
+price_of ab step true Void q keep f = stand_void ab step
 price_of ab step true Fixed q keep f = λ e. keep (sym (stand_fixed ab step) ∙ e)
 price_of ab step false Waiting q keep f = f
 price_of ab step false Committed q keep f = λ e. keep (sym (stand_committed ab step) ∙ e)
+price_of ab step false Void q keep f = stand_void ab step
 price_of ab step false Failed q keep f = f
 price_of ab step false Undoing q keep f = cc
 price_of ab step false Undone q keep f = f

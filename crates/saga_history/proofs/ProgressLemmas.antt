@@ -7,7 +7,8 @@ use Rattle.saga_def.specs.Sound.{IsSound}
 use Rattle.saga_def.specs.Order.{IsClosed}
 use Rattle.saga_def.proofs.OrderLemmas.{known_on, known_step}
 use Rattle.saga_case.specs.declared.states.StepState.{StepState}
-use Rattle.saga_case.specs.declared.states.StepState.TheVariants.{Waiting, Running, Committed, Undoing, Fixed}
+use Rattle.saga_case.specs.declared.states.StepState.TheVariants.{Waiting, Running, Committed, Void, Undoing, Fixed}
+use Rattle.saga_case.specs.States.{commits}
 use Rattle.saga_case.proofs.ClosedLemmas.{closed_direct}
 use Rattle.saga_order.specs.Shape.{shape_of}
 use Rattle.saga_order.proofs.LawLemmas.{sets_have_first, sets_have_last, ordered_from_sound}
@@ -15,13 +16,14 @@ use Rattle.saga_history.specs.declared.events.Event.{Event}
 use Rattle.saga_history.specs.declared.transitions.Transition.TheVariants as transition
 use Rattle.saga_history.specs.declared.tasks.Task.TheVariants as task
 use Rattle.saga_history.specs.Changes.{Change, moves, starts_plan, changes}
-use Rattle.saga_history.specs.States.{state, is_busy, is_standing, is_off}
+use Rattle.saga_history.specs.States.{state, unvoided, is_busy, is_standing, is_off}
 use Rattle.saga_history.specs.Turns.{turn, goal}
 use Rattle.saga_history.specs.declared.turns.Turn.{Turn}
 use Rattle.saga_history.specs.declared.turns.Turn.TheVariants.{Going, Draining, Planning, Stuck}
 use Rattle.saga_history.specs.Rules.{StepMay, SagaMay, IsEnded, definition, IsLegal}
 use Rattle.saga_history.specs.Progress.{HasBusyStep, IsEndedOrWaits, AllEndedOrWait}
 use Rattle.saga_history.proofs.SagaLemmas.{saga_is_legal, IsLegalUnder, legal_under}
+use Rattle.saga_history.proofs.VoidLemmas.{unvoided-commits}
 use Rattle.saga_history.proofs.NeedLemmas.{is_waiting}
 use Rattle.saga_history.proofs.HeadlineLemmas.{goal_closed, definition_sound}
 use Rattle.saga_history.proofs.TurnLemmas.{NoStepIsBusy, drained_from, suits, goal_suits}
@@ -43,31 +45,26 @@ waits_from _ q m s = cc
 stands_from : (x : StepState) → is_busy x ≡ false → suits true x ≡ true → (is_waiting x ≡ true → ⊥) → is_standing x ≡ true
 stands_from Waiting q m s = absurd (s refl)
 stands_from Committed q m s = refl
+stands_from Void q m s = refl
 stands_from Fixed q m s = refl
 stands_from _ q m s = cc
 
-is_waiting-eq : (x : StepState) → is_waiting x ≡ true → x ≡ Waiting
+is_waiting-eq : (x : StepState) → is_waiting x ≡ true → unvoided x ≡ Waiting
 is_waiting-eq Waiting t = refl
 is_waiting-eq _ t = cc
 
-abbrev is_committed : StepState → Bool
-is_committed Committed = true
-is_committed _ = false
-
-commits_from : (x : StepState) → is_busy x ≡ false → suits false x ≡ true → is_off x ≡ false → is_committed x ≡ true
+commits_from : (x : StepState) → is_busy x ≡ false → suits false x ≡ true → is_off x ≡ false → commits x ≡ true
 commits_from Committed q m s = refl
+commits_from Void q m s = refl
 commits_from _ q m s = cc
 
-off_from : (x : StepState) → is_busy x ≡ false → suits false x ≡ true → (is_committed x ≡ true → ⊥) → is_off x ≡ true
+off_from : (x : StepState) → is_busy x ≡ false → suits false x ≡ true → (commits x ≡ true → ⊥) → is_off x ≡ true
 off_from Running q m s = cc
 off_from Committed q m s = absurd (s refl)
+off_from Void q m s = absurd (s refl)
 off_from Undoing q m s = cc
 off_from Fixed q m s = cc
 off_from _ q m s = refl
-
-is_committed-eq : (x : StepState) → is_committed x ≡ true → x ≡ Committed
-is_committed-eq Committed t = refl
-is_committed-eq _ t = cc
 
 both : (a b : Bool) → a ≡ true → b ≡ true → (a && b) ≡ true
 both a b p q = rw (p, q) refl
@@ -105,13 +102,13 @@ run_first d l g s lt wanted down =
 undo_last : (d : Contents) (l : List Change) → Still d l → (s : ℕ) → s < length d.steps → goal l s ≡ false → is_off (state l s) ≡ false → (t : ℕ) × StepMay d l t transition.StartUndo
 undo_last d l g s lt away up =
     let stands = commits_from (state l s) (g.none_busy s lt) (rw away at (g.suit s lt)) up in
-    let f = sets_have_last (shape_of d) (ordered_from_sound d g.sound) (λ (t : ℕ). not (goal l t) && is_committed (state l t)) s lt (both _ _ (not_from_false _ away) stands) in
-    let here = and_parts (not (goal l f.last)) (is_committed (state l f.last)) f.in_set in
+    let f = sets_have_last (shape_of d) (ordered_from_sound d g.sound) (λ (t : ℕ). not (goal l t) && commits (state l t)) s lt (both _ _ (not_from_false _ away) stands) in
+    let here = and_parts (not (goal l f.last)) (commits (state l f.last)) f.in_set in
     let out = not-true _ here.0 in (
       f.last,
       record {
         is_step = f.within;
-        begins = is_committed-eq (state l f.last) here.1;
+        begins = unvoided-commits (state l f.last) here.1;
         condition = (
           g.going,
           out,

@@ -5,11 +5,11 @@ use Rattle.std.proofs.lemmas.Bool.{cases_Bool, eqb-true}
 use Rattle.std.proofs.lemmas.List.Sums.{sum_by-cons}
 use Rattle.saga_def.specs.Contents.{Contents}
 use Rattle.saga_case.specs.declared.states.StepState.{StepState}
-use Rattle.saga_case.specs.declared.states.StepState.TheVariants.{Waiting}
+use Rattle.saga_case.specs.declared.states.StepState.TheVariants.{Waiting, Void}
 use Rattle.saga_history.specs.declared.transitions.Transition.{Transition}
 use Rattle.saga_history.specs.declared.transitions.Transition.TheVariants as transition
 use Rattle.saga_history.specs.Changes.{Change, opens, moves, starts_plan}
-use Rattle.saga_history.specs.States.{same_transition, state_before, state_after, transitions, end_state}
+use Rattle.saga_history.specs.States.{same_transition, state_before, state_after, unvoided, transitions, end_state}
 use Rattle.saga_history.specs.Rules.{tries, undo_tries, MeetsCondition, StepMay}
 use Rattle.saga_history.specs.Tallies.{count_of, one, was_begun, has_committed, has_failed, undo_begun, has_undone, has_fixed, Tally}
 use Rattle.saga_history.proofs.SagaLemmas.{IsLegalUnder}
@@ -22,7 +22,7 @@ IsCounted t u ms _ = Unit {0}
 
 abbrev pub AreInSequence : ℕ → ℕ → List Transition → Type 0
 AreInSequence t u [] = Unit {0}
-AreInSequence t u (m ∷ ms) = (end_state ms ≡ state_before m) × IsCounted t u ms m × AreInSequence t u ms
+AreInSequence t u (m ∷ ms) = (unvoided (end_state ms) ≡ state_before m) × IsCounted t u ms m × AreInSequence t u ms
 
 counted : (d : Contents) (l : List Change) (s : ℕ) (m : Transition) → MeetsCondition d l s m → IsCounted (tries d s) (undo_tries d s) (transitions l s) m
 counted d l s transition.Missed condition = condition
@@ -52,7 +52,7 @@ in_sequence d s (_ ∷ l) legal = in_sequence d s l legal.1
 pub count-cons : {A : Type 0} (p : A → Bool) (e : A) (h : List A) → count_by p (e ∷ h) ≡ one (p e) + count_by p h
 count-cons p e h = sum_by-cons (λ x. cond (p x) 1 0) e h
 
--- all eight counts after one more transition
+-- all nine counts after one more transition
 pub record Counts (m : Transition) (ms : List Transition) : Type 0 where
   pub a : count_of transition.StartRun (m ∷ ms) ≡ one (same_transition transition.StartRun m) + count_of transition.StartRun ms
   pub b : count_of transition.Commit (m ∷ ms) ≡ one (same_transition transition.Commit m) + count_of transition.Commit ms
@@ -62,6 +62,7 @@ pub record Counts (m : Transition) (ms : List Transition) : Type 0 where
   pub f : count_of transition.Undone (m ∷ ms) ≡ one (same_transition transition.Undone m) + count_of transition.Undone ms
   pub g : count_of transition.UndoMissed (m ∷ ms) ≡ one (same_transition transition.UndoMissed m) + count_of transition.UndoMissed ms
   pub h : count_of transition.UndoFail (m ∷ ms) ≡ one (same_transition transition.UndoFail m) + count_of transition.UndoFail ms
+  pub i : count_of transition.Void (m ∷ ms) ≡ one (same_transition transition.Void m) + count_of transition.Void ms
 
 counts : (m : Transition) (ms : List Transition) → Counts m ms
 counts m ms = record {
@@ -73,7 +74,12 @@ counts m ms = record {
   f = count-cons (same_transition transition.Undone) m ms;
   g = count-cons (same_transition transition.UndoMissed) m ms;
   h = count-cons (same_transition transition.UndoFail) m ms;
+  i = count-cons (same_transition transition.Void) m ms;
 }
+
+tally_unvoided : (ms : List Transition) (x : StepState) → Tally ms x → Tally ms (unvoided x)
+tally_unvoided ms Void t = record { committed = t.committed; undone = t.undone; failed = t.failed; fixed = t.fixed; started = t.started; undo_started = t.undo_started; in_all = t.in_all }
+tally_unvoided ms _ t = t
 
 tally_more : (m : Transition) (ms : List Transition) → Counts m ms → Tally ms (state_before m) → Tally (m ∷ ms) (state_after m)
 tally_more transition.StartRun ms n t = record { committed = omega (arith, n, t); undone = omega (arith, n, t); failed = omega (arith, n, t); fixed = omega (arith, n, t); started = omega (arith, n, t); undo_started = omega (arith, n, t); in_all = omega (arith, n, t) }
@@ -81,7 +87,7 @@ tally_more _ ms n t = record { committed = omega (arith, n, t); undone = omega (
 
 pub tally : (t u : ℕ) (ms : List Transition) → AreInSequence t u ms → Tally ms (end_state ms)
 tally t u [] steps = record { committed = refl; undone = refl; failed = refl; fixed = refl; started = omega arith; undo_started = omega arith; in_all = omega arith }
-tally t u (m ∷ ms) steps = tally_more m ms (counts m ms) (subst (Tally ms) steps.0 (tally t u ms steps.2))
+tally t u (m ∷ ms) steps = tally_more m ms (counts m ms) (subst (Tally ms) steps.0 (tally_unvoided ms (end_state ms) (tally t u ms steps.2)))
 
 -- there are fewer misses than tries
 pub record FewMisses (t u : ℕ) (ms : List Transition) : Type 0 where
@@ -97,13 +103,13 @@ pub few_misses : (t u : ℕ) (ms : List Transition) → 1 ≤ t → 1 ≤ u → 
 few_misses t u [] some some_undo steps = record { few = omega (arith, some); few_undo = omega (arith, some_undo) }
 few_misses t u (m ∷ ms) some some_undo steps = misses_more t u m ms (counts m ms) steps.1 (few_misses t u ms some some_undo steps.2)
 
-events_by_state : (x : StepState) (a b c d e f g h t u n : ℕ) → b ≡ one (has_committed x) → f ≡ one (has_undone x) → d ≡ one (has_failed x) → h ≡ one (has_fixed x) → a ≡ c + one (was_begun x) → e ≡ g + one (undo_begun x) → n ≡ a + b + c + d + e + f + g + h → c < t → g < u → n ≤ 2 * (t + u)
-events_by_state Waiting a b c d e f g h t u n p q r s v w y few fewu = omega arith
-events_by_state _ a b c d e f g h t u n p q r s v w y few fewu = omega arith
+events_by_state : (x : StepState) (a b c d e f g h i t u n : ℕ) → b + i ≡ one (has_committed x) → f ≡ one (has_undone x) → d ≡ one (has_failed x) → h ≡ one (has_fixed x) → a ≡ c + one (was_begun x) → e ≡ g + one (undo_begun x) → n ≡ a + b + c + d + e + f + g + h + i → c < t → g < u → n ≤ 2 * (t + u)
+events_by_state Waiting a b c d e f g h i t u n p q r s v w y few fewu = omega arith
+events_by_state _ a b c d e f g h i t u n p q r s v w y few fewu = omega arith
 
 -- at most two events for each try
 pub few_moves : (t u : ℕ) (ms : List Transition) → 1 ≤ t → 1 ≤ u → AreInSequence t u ms → length ms ≤ 2 * (t + u)
 few_moves t u ms some some_undo steps =
     let k = tally t u ms steps in
     let f = few_misses t u ms some some_undo steps in
-    events_by_state (end_state ms) _ _ _ _ _ _ _ _ t u _ k.committed k.undone k.failed k.fixed k.started k.undo_started k.in_all f.few f.few_undo
+    events_by_state (end_state ms) _ _ _ _ _ _ _ _ _ t u _ k.committed k.undone k.failed k.fixed k.started k.undo_started k.in_all f.few f.few_undo

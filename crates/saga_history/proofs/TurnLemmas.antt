@@ -13,7 +13,7 @@ use Rattle.saga_def.specs.Order.{Steps, member}
 use Rattle.saga_case.specs.declared.answers.Answer.{Answer}
 use Rattle.saga_case.specs.declared.answers.Answer.TheVariants as answer
 use Rattle.saga_case.specs.declared.states.StepState.{StepState}
-use Rattle.saga_case.specs.declared.states.StepState.TheVariants.{Waiting, Running, Failed, Undoing, Undone, Fixed}
+use Rattle.saga_case.specs.declared.states.StepState.TheVariants.{Waiting, Running, Void, Failed, Undoing, Undone, Fixed}
 use Rattle.saga_case.specs.States.{IsBusy}
 use Rattle.saga_case.specs.Prices.{stand_of, leave_of}
 use Rattle.saga_case.specs.Situation.{AreDrained}
@@ -24,11 +24,12 @@ use Rattle.saga_history.specs.declared.transitions.Transition.{Transition}
 use Rattle.saga_history.specs.declared.transitions.Transition.TheVariants as transition
 use Rattle.saga_history.specs.declared.events.Event.{Event}
 use Rattle.saga_history.specs.Changes.{changes, Change, opens, moves, starts_plan, drops_plan, adopts, aborts}
-use Rattle.saga_history.specs.States.{state_before, state_after, state, is_busy, states}
+use Rattle.saga_history.specs.States.{state_before, state_after, unvoided, state, is_busy, states}
 use Rattle.saga_history.specs.Turns.{turn, turn_of_answer, turn_after_transition, turn_after_abort, aborted, present_case, goal}
 use Rattle.saga_history.specs.declared.turns.Turn.{Turn}
 use Rattle.saga_history.specs.declared.turns.Turn.TheVariants.{Going, Planning}
 use Rattle.saga_history.specs.Rules.{SagaMay, definition, IsLegal, StepMay}
+use Rattle.saga_history.proofs.VoidLemmas.{is_busy-unvoided}
 use Rattle.saga_history.proofs.SagaLemmas.{saga_is_legal, legal_under, IsLegalUnder}
 
 -- no step is busy, step by step
@@ -64,7 +65,7 @@ drained_from d l none_busy = λ s x lt busy.
 pub no_move : (d : Contents) (l : List Change) (s : ℕ) (t : Transition) → StepMay d l s t → turn l ≡ Planning → NoStepIsBusy d l → ⊥
 no_move d l s transition.StartRun may now none_busy = let bad : Planning ≡ Going = sym now ∙ may.condition.0 in cc
 no_move d l s transition.StartUndo may now none_busy = let bad : Planning ≡ Going = sym now ∙ may.condition.0 in cc
-no_move d l s _ may now none_busy = let b = none_busy s may.is_step in let c : is_busy (state l s) ≡ true = ap is_busy may.begins in cc
+no_move d l s _ may now none_busy = let b = none_busy s may.is_step in let c : is_busy (state l s) ≡ true = sym (is_busy-unvoided (state l s)) ∙ ap is_busy may.begins in cc
 
 was_planning : (t : Transition) (turn : Turn) → turn_after_transition t turn ≡ Planning → turn ≡ Planning
 was_planning transition.Fail turn e = cc
@@ -122,6 +123,11 @@ suits true Undone = false
 suits false Running = false
 suits false Fixed = false
 suits _ _ = true
+
+suits_unvoided : (b : Bool) (x : StepState) → suits b x ≡ true → suits b (unvoided x) ≡ true
+suits_unvoided true Void s = refl
+suits_unvoided false Void s = refl
+suits_unvoided b _ s = s
 
 suits_move : (b : Bool) (z : StepState) (t : Transition) (turn : Turn) → z ≡ state_before t → (t ≡ transition.StartRun → b ≡ true) → (t ≡ transition.StartUndo → b ≡ false) → turn_after_transition t turn ≡ Going → suits b z ≡ true → suits b (state_after t) ≡ true
 suits_move b z transition.StartRun turn f starting undoing going was = rw (starting refl) refl
@@ -183,7 +189,7 @@ suits_moves d l r t may was = λ going s lt.
     elim (cases_Bool (eqb s r)) [
       | inl own ↦
           let at : s ≡ r = eqb-true s r own in
-          rw own (suits_move (goal l s) (state l s) t (turn l) (ap (state l) at ∙ may.begins) (λ is. ap (goal l) at ∙ starts_in_goal d l r t may is) (λ is. ap (goal l) at ∙ undo_off_goal d l r t may is) going (was before s lt))
+          rw own (suits_move (goal l s) (unvoided (state l s)) t (turn l) (ap (λ v. unvoided (state l v)) at ∙ may.begins) (λ is. ap (goal l) at ∙ starts_in_goal d l r t may is) (λ is. ap (goal l) at ∙ undo_off_goal d l r t may is) going (suits_unvoided (goal l s) (state l s) (was before s lt)))
       | inr other ↦ rw other (was before s lt)
     ]
 

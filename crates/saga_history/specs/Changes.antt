@@ -32,6 +32,7 @@ saga_of (event.Adopt i a) = i
 saga_of (event.Missed i s) = i
 saga_of (event.UndoMissed i s) = i
 saga_of (event.Abort i) = i
+saga_of (event.Void i s) = i
 
 abbrev pub change_of : Event → Change
 change_of (event.Open i k) = opens k
@@ -47,11 +48,13 @@ change_of (event.Adopt i a) = adopts a
 change_of (event.Missed i s) = moves s transition.Missed
 change_of (event.UndoMissed i s) = moves s transition.UndoMissed
 change_of (event.Abort i) = aborts
+change_of (event.Void i s) = moves s transition.Void
 
 -- the event of this transition of a step
 abbrev pub step_event : ℕ → ℕ → Transition → Event
 step_event i s transition.StartRun = event.StartRun i s
 step_event i s transition.Commit = event.Commit i s
+step_event i s transition.Void = event.Void i s
 step_event i s transition.Missed = event.Missed i s
 step_event i s transition.Fail = event.Fail i s
 step_event i s transition.StartUndo = event.StartUndo i s
@@ -83,3 +86,4 @@ mark_of (event.Adopt i a) = mark.Adopt i
 mark_of (event.Missed i s) = mark.Missed i s
 mark_of (event.UndoMissed i s) = mark.UndoMissed i s
 mark_of (event.Abort i) = mark.Abort i
+mark_of (event.Void i s) = mark.Void i s

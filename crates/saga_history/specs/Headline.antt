@@ -8,18 +8,18 @@ use Rattle.saga_case.specs.Right.{IsRight, Settles}
 use Rattle.saga_history.specs.declared.events.Event.{Event}
 use Rattle.saga_history.specs.declared.transitions.Transition.TheVariants as transition
 use Rattle.saga_history.specs.Changes.{Change, opens, moves, starts_plan, drops_plan, adopts, aborts, saga_of, change_of, changes}
-use Rattle.saga_history.specs.States.{state, same_transition, times}
+use Rattle.saga_history.specs.States.{state, same_transition, times, times_committed}
 use Rattle.saga_history.specs.Turns.{goal, present_case}
 use Rattle.saga_history.specs.Rules.{IsEnded, definition, EachEvent}
 
 -- an ended saga has exactly its goal, a dependency-closed set: each step in it committed once and was not compensated,
--- and each other step that committed was compensated once
+-- and each other step that committed was compensated once. A step that ended without an effect counts as committed.
 pub record HasExactlyItsGoal (d : Contents) (l : List Change) : Type 0 where
   pub closed : IsClosed d.needs (goal l)
   pub kept : (s : ℕ) → s < length d.steps → goal l s ≡ true
-      → (times transition.Commit l s ≡ 1) × (times transition.Undone l s ≡ 0)
-  pub compensated : (s : ℕ) → s < length d.steps → goal l s ≡ false → 0 < times transition.Commit l s
-      → (times transition.Commit l s ≡ 1) × (times transition.Undone l s ≡ 1)
+      → (times_committed l s ≡ 1) × (times transition.Undone l s ≡ 0)
+  pub compensated : (s : ℕ) → s < length d.steps → goal l s ≡ false → 0 < times_committed l s
+      → (times_committed l s ≡ 1) × (times transition.Undone l s ≡ 1)
 
 -- whether a compensation of this step starts
 abbrev pub starts_undo_of : ℕ → Change → Bool
@@ -33,7 +33,7 @@ before_last p (c ∷ l) = if p c then l else before_last p l
 
 -- each step that p precedes and that committed was compensated before the last start of the compensation of p
 pub record CompensatesInOrder (d : Contents) (l : List Change) : Type 0 where
-  pub order : (p q : ℕ) → Precedes d.needs p q → 0 < times transition.Undone l p → 0 < times transition.Commit l q
+  pub order : (p q : ℕ) → Precedes d.needs p q → 0 < times transition.Undone l p → 0 < times_committed l q
       → 0 < times transition.Undone (before_last (starts_undo_of p) l) q
 
 -- no allowed set of the present case has a failed or an undone step

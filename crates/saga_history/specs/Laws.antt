@@ -13,7 +13,7 @@ use Rattle.saga_history.specs.declared.transitions.Transition.TheVariants as tra
 use Rattle.saga_history.specs.Changes.{Change, changes, past}
 use Rattle.saga_history.specs.Headline.{before_last, starts_undo_of}
 use Rattle.saga_history.specs.Rules.{definition, HasPhase, IsEnded}
-use Rattle.saga_history.specs.States.{state, times}
+use Rattle.saga_history.specs.States.{state, times, times_committed}
 use Rattle.saga_history.specs.Turns.{goal, present_case}
 
 -- a saga has at most one phase
@@ -34,21 +34,21 @@ abbrev pub GoalIsKept : List Contents → List Event → Type 0
 GoalIsKept shelf h =
     (i : ℕ) (d : Contents) → Runs shelf h i d → IsEnded d (changes i h)
     → (s : ℕ) → s < length d.steps → goal (changes i h) s ≡ true
-    → (times transition.Commit (changes i h) s ≡ 1) × (times transition.Undone (changes i h) s ≡ 0)
+    → (times_committed (changes i h) s ≡ 1) × (times transition.Undone (changes i h) s ≡ 0)
 
 -- each other step of it that committed did so once, and was compensated once
 abbrev pub OthersAreUndone : List Contents → List Event → Type 0
 OthersAreUndone shelf h =
     (i : ℕ) (d : Contents) → Runs shelf h i d → IsEnded d (changes i h)
-    → (s : ℕ) → s < length d.steps → goal (changes i h) s ≡ false → 0 < times transition.Commit (changes i h) s
-    → (times transition.Commit (changes i h) s ≡ 1) × (times transition.Undone (changes i h) s ≡ 1)
+    → (s : ℕ) → s < length d.steps → goal (changes i h) s ≡ false → 0 < times_committed (changes i h) s
+    → (times_committed (changes i h) s ≡ 1) × (times transition.Undone (changes i h) s ≡ 1)
 
 -- if a step was compensated, each committed step that it precedes was compensated before the last start of its
 -- compensation
 abbrev pub UndoneInOrder : List Contents → List Event → Type 0
 UndoneInOrder shelf h =
     (i : ℕ) (d : Contents) → Runs shelf h i d → (p q : ℕ) → Precedes d.needs p q
-    → 0 < times transition.Undone (changes i h) p → 0 < times transition.Commit (changes i h) q
+    → 0 < times transition.Undone (changes i h) p → 0 < times_committed (changes i h) q
     → 0 < times transition.Undone (before_last (starts_undo_of p) (changes i h)) q
 
 -- an adopted answer is right for the case of its saga before the adoption; no set that was allowed there has a failed

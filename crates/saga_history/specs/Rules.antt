@@ -13,7 +13,7 @@ use Rattle.saga_history.specs.declared.transitions.Transition.{Transition}
 use Rattle.saga_history.specs.declared.transitions.Transition.TheVariants as transition
 use Rattle.saga_history.specs.declared.turns.Turn.TheVariants.{Going, Draining, Planning, Stuck}
 use Rattle.saga_history.specs.Changes.{Change, opens, moves, starts_plan, drops_plan, adopts, aborts, saga_of, change_of, changes}
-use Rattle.saga_history.specs.States.{state_before, state, states, times, is_standing, is_off}
+use Rattle.saga_history.specs.States.{state_before, unvoided, state, states, times, is_standing, is_off}
 use Rattle.saga_history.specs.Turns.{turn, goal, aborted, opened_with, present_case}
 
 -- the number of tries of a step and of its compensation; 0 if there is no such step
@@ -50,6 +50,7 @@ DependantsAreOff d l s = (b : ℕ) → NeedsDirectly d.needs b s → IsTrue (is_
 abbrev pub MeetsCondition : Contents → List Change → ℕ → Transition → Type 0
 MeetsCondition d l s transition.StartRun = (turn l ≡ Going) × IsTrue (goal l s) × NeedsStand d l s
 MeetsCondition d l s transition.Commit = Unit {0}
+MeetsCondition d l s transition.Void = Unit {0}
 MeetsCondition d l s transition.Missed = misses_of l s + 1 < tries d s
 MeetsCondition d l s transition.Fail = misses_of l s + 1 ≡ tries d s
 MeetsCondition d l s transition.StartUndo = (turn l ≡ Going) × (goal l s ≡ false) × DependantsAreOff d l s
@@ -60,7 +61,7 @@ MeetsCondition d l s transition.UndoFail = undo_misses_of l s + 1 ≡ undo_tries
 -- a step may make a transition
 pub record StepMay (d : Contents) (l : List Change) (s : ℕ) (t : Transition) : Type 0 where
   pub is_step : s < length d.steps
-  pub begins : state l s ≡ state_before t
+  pub begins : unvoided (state l s) ≡ state_before t
   pub condition : MeetsCondition d l s t
 
 -- a saga is ended: it is going, each step of the goal is in effect, and each other step is waiting, failed or undone

@@ -4,7 +4,7 @@ use Rattle.saga_def.specs.Contents.{Contents}
 use Rattle.saga_def.specs.Order.{NeedsDirectly}
 use Rattle.saga_case.specs.Situation.{AreDrained}
 use Rattle.saga_case.specs.declared.states.StepState.{StepState}
-use Rattle.saga_case.specs.declared.states.StepState.TheVariants.{Waiting, Committed, Failed, Undoing, Undone, Fixed}
+use Rattle.saga_case.specs.declared.states.StepState.TheVariants.{Waiting, Committed, Void, Failed, Undoing, Undone, Fixed}
 use Rattle.saga_history.specs.declared.events.Event.{Event}
 use Rattle.saga_history.specs.declared.transitions.Transition.{Transition}
 use Rattle.saga_history.specs.declared.transitions.Transition.TheVariants as transition
@@ -24,6 +24,7 @@ was_begun _ = true
 
 abbrev pub has_committed : StepState → Bool
 has_committed Committed = true
+has_committed Void = true
 has_committed Undoing = true
 has_committed Undone = true
 has_committed Fixed = true
@@ -54,7 +55,7 @@ count_of t ts = count_by (same_transition t) ts
 
 -- how often each transition was made, by the state and the number of misses
 pub record Tally (ts : List Transition) (x : StepState) : Type 0 where
-  pub committed : count_of transition.Commit ts ≡ one (has_committed x)
+  pub committed : count_of transition.Commit ts + count_of transition.Void ts ≡ one (has_committed x)
   pub undone : count_of transition.Undone ts ≡ one (has_undone x)
   pub failed : count_of transition.Fail ts ≡ one (has_failed x)
   pub fixed : count_of transition.UndoFail ts ≡ one (has_fixed x)
@@ -62,7 +63,7 @@ pub record Tally (ts : List Transition) (x : StepState) : Type 0 where
   pub undo_started : count_of transition.StartUndo ts ≡ count_of transition.UndoMissed ts + one (undo_begun x)
   pub in_all : length ts ≡ count_of transition.StartRun ts + count_of transition.Commit ts + count_of transition.Missed ts
       + count_of transition.Fail ts + count_of transition.StartUndo ts + count_of transition.Undone ts
-      + count_of transition.UndoMissed ts + count_of transition.UndoFail ts
+      + count_of transition.UndoMissed ts + count_of transition.UndoFail ts + count_of transition.Void ts
 
 -- the states that a step may have if a step in the first state needs it directly
 abbrev pub SuitsNeed : StepState → StepState → Type 0

@@ -12,7 +12,7 @@ use Rattle.saga_history.specs.declared.tasks.Phase.TheVariants as phase
 use Rattle.saga_history.specs.declared.tasks.Task.{Task}
 use Rattle.saga_history.specs.declared.tasks.Task.TheVariants as task
 use Rattle.saga_history.specs.declared.tasks.Outcome.{Outcome}
-use Rattle.saga_history.specs.declared.tasks.Outcome.TheVariants.{Done, Failed}
+use Rattle.saga_history.specs.declared.tasks.Outcome.TheVariants.{Done, Void, Failed}
 use Rattle.saga_history.specs.declared.transitions.Transition.{Transition}
 use Rattle.saga_history.specs.declared.transitions.Transition.TheVariants as transition
 use Rattle.saga_history.specs.Changes.{Change}
@@ -46,8 +46,10 @@ tries_of kind.Undo d s = undo_tries d s
 -- number of tries
 abbrev pub end_of : Kind → Outcome → ℕ → ℕ → Transition
 end_of kind.Run Done misses tries = transition.Commit
+end_of kind.Run Void misses tries = transition.Void
 end_of kind.Run Failed misses tries = if nat_lt (misses + 1) tries then transition.Missed else transition.Fail
 end_of kind.Undo Done misses tries = transition.Undone
+end_of kind.Undo Void misses tries = transition.Undone
 end_of kind.Undo Failed misses tries = if nat_lt (misses + 1) tries then transition.UndoMissed else transition.UndoFail
 
 -- the transition is the end with this outcome, for some numbers of misses and tries

@@ -26,7 +26,7 @@ pub use questions::{
     goal_contains, is_aborted, is_in_goal, next_aborted, next_opened, next_turn, opened_with,
     state_of, times, turn_of,
 };
-pub use states::{is_busy, is_off, is_standing};
+pub use states::{is_busy, is_off, is_standing, unvoided};
 pub use tasks::{Kind, Outcome, Phase, Task};
 pub use transitions::Transition;
 pub use turns::Turn;

@@ -5,12 +5,23 @@ ghost use Rattle.saga_history.specs.States as spec;
 
 use saga_case::StepState;
 
-/// Whether the step's effect is in place: it is committed, possibly permanently.
+/// The state that decides which transition may start: of a void step, it is committed.
+pub fn unvoided(state: StepState) -> StepState
+    ensures { result ≡ spec.unvoided state }
+{
+    match state {
+        StepState::Void => StepState::Committed,
+        _ => state,
+    }
+}
+
+/// Whether the step is in effect for the steps that need it: it is committed, possibly
+/// permanently, or void.
 pub fn is_standing(state: StepState) -> bool
     ensures { result ≡ spec.is_standing state }
 {
     match state {
-        StepState::Committed | StepState::Fixed => true,
+        StepState::Committed | StepState::Void | StepState::Fixed => true,
         _ => false,
     }
 }

@@ -40,6 +40,8 @@ pub enum Kind {
 #[derive(Clone, Copy, Debug, PartialEq, Eq)]
 pub enum Outcome {
     Done,
+    /// It ended without an effect.
+    Void,
     Failed,
 }
 
@@ -79,9 +81,10 @@ impl Outcome {
         let again = misses < tries && misses + 1 < tries;
         match (kind, self) {
             (Kind::Run, Outcome::Done) => Transition::Commit,
+            (Kind::Run, Outcome::Void) => Transition::Void,
             (Kind::Run, Outcome::Failed) if again => Transition::Missed,
             (Kind::Run, Outcome::Failed) => Transition::Fail,
-            (Kind::Undo, Outcome::Done) => Transition::Undone,
+            (Kind::Undo, Outcome::Done | Outcome::Void) => Transition::Undone,
             (Kind::Undo, Outcome::Failed) if again => Transition::UndoMissed,
             (Kind::Undo, Outcome::Failed) => Transition::UndoFail,
         }

@@ -13,6 +13,8 @@ pub enum Transition {
     StartRun,
     /// Its action succeeded.
     Commit,
+    /// Its action ended without an effect.
+    Void,
     /// Its action failed, and is retried.
     Missed,
     /// Its action failed, and is not retried.
@@ -28,13 +30,15 @@ pub enum Transition {
 }
 
 impl Transition {
-    /// The state in which the transition starts.
+    /// The state in which the transition starts, where a void step counts as committed.
     pub fn state_before(self) -> StepState
         ensures { result ≡ spec.state_before self }
     {
         match self {
             Transition::StartRun => StepState::Waiting,
-            Transition::Commit | Transition::Missed | Transition::Fail => StepState::Running,
+            Transition::Commit | Transition::Void | Transition::Missed | Transition::Fail => {
+                StepState::Running
+            }
             Transition::StartUndo => StepState::Committed,
             Transition::Undone | Transition::UndoMissed | Transition::UndoFail => {
                 StepState::Undoing
@@ -49,6 +53,7 @@ impl Transition {
         match self {
             Transition::StartRun => StepState::Running,
             Transition::Commit | Transition::UndoMissed => StepState::Committed,
+            Transition::Void => StepState::Void,
             Transition::Missed => StepState::Waiting,
             Transition::Fail => StepState::Failed,
             Transition::StartUndo => StepState::Undoing,

@@ -71,6 +71,7 @@ abbrev pub padded_word : StepState → List ℕ
 padded_word state.Waiting = codes "waiting  "
 padded_word state.Running = codes "running  "
 padded_word state.Committed = codes "committed"
+padded_word state.Void = codes "void     "
 padded_word state.Failed = codes "failed   "
 padded_word state.Undoing = codes "undoing  "
 padded_word state.Undone = codes "undone   "

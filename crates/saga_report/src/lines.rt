@@ -22,6 +22,7 @@ fn padded_word(state: StepState) -> &'static str
         StepState::Waiting => "waiting  ",
         StepState::Running => "running  ",
         StepState::Committed => "committed",
+        StepState::Void => "void     ",
         StepState::Failed => "failed   ",
         StepState::Undoing => "undoing  ",
         StepState::Undone => "undone   ",

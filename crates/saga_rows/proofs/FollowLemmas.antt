@@ -13,13 +13,14 @@ use Rattle.saga_def.proofs.OrderLemmas.{known_on, known_step}
 use Rattle.saga_case.specs.declared.answers.Answer.{Answer}
 use Rattle.saga_case.specs.declared.answers.Answer.TheVariants as answer
 use Rattle.saga_case.specs.declared.states.StepState.{StepState}
-use Rattle.saga_case.specs.declared.states.StepState.TheVariants.{Waiting, Running, Undoing}
+use Rattle.saga_case.specs.declared.states.StepState.TheVariants.{Waiting, Running, Committed, Undoing}
 use Rattle.saga_case.specs.Right.{IsRight}
 use Rattle.saga_case.specs.Situation.{situation}
 use Rattle.saga_case.specs.Terms.{terms_of}
 use Rattle.saga_history.specs.Changes.{Change, opens, moves, starts_plan, drops_plan, adopts, aborts}
 use Rattle.saga_history.specs.Rules.{HasPhase, IsEnded, SagaMay, StepMay, misses_of, tries, undo_misses_of, undo_tries}
-use Rattle.saga_history.specs.States.{end_state, is_busy, is_off, is_standing, same_transition, state, state_after, states, transitions}
+use Rattle.saga_case.specs.States.{commits}
+use Rattle.saga_history.specs.States.{unvoided, end_state, is_busy, is_off, is_standing, same_transition, state, state_after, states, transitions}
 use Rattle.saga_history.specs.Turns.{aborted, goal, present_case, turn_after_abort, turn_after_transition}
 use Rattle.saga_history.specs.declared.tasks.Phase.{Phase}
 use Rattle.saga_history.specs.declared.tasks.Phase.TheVariants as phase
@@ -27,6 +28,7 @@ use Rattle.saga_history.specs.declared.transitions.Transition.{Transition}
 use Rattle.saga_history.specs.declared.transitions.Transition.TheVariants as transition
 use Rattle.saga_history.specs.declared.turns.Turn.{Turn}
 use Rattle.saga_history.specs.declared.turns.Turn.TheVariants.{Going, Draining, Planning, Stuck}
+use Rattle.saga_history.proofs.VoidLemmas.{itself_but_committed, unvoided-commits, commits-unvoided}
 use Rattle.saga_history.proofs.SagaLemmas.{IsLegalUnder}
 use Rattle.saga_history.proofs.TallyLemmas.{few_of}
 use Rattle.saga_history.proofs.TransitionLemmas.{transitions_own, transitions_other}
@@ -71,7 +73,7 @@ module _ (shelf : List Contents) (row : Row) (l : List Change) (f : Follows shel
   run_into : (s : ℕ) → MayRun row s → StepMay row.definition l s transition.StartRun
   run_into s may = record {
     is_step = may.is_step;
-    begins = sym (f.states_are s may.is_step) ∙ may.waiting;
+    begins = ap unvoided (sym (f.states_are s may.is_step) ∙ may.waiting);
     condition = (sym f.turn_is ∙ may.going, sym (f.goal_is s may.is_step) ∙ may.wanted, λ a needed. sym (standing_as s a needed) ∙ may.stand a needed);
   }
 
@@ -80,14 +82,14 @@ module _ (shelf : List Contents) (row : Row) (l : List Change) (f : Follows shel
     is_step = may.is_step;
     going = f.turn_is ∙ may.condition.0;
     wanted = f.goal_is s may.is_step ∙ may.condition.1;
-    waiting = f.states_are s may.is_step ∙ may.begins;
+    waiting = f.states_are s may.is_step ∙ itself_but_committed (state l s) Waiting (λ is. cc) may.begins;
     stand = λ a needed. standing_as s a needed ∙ may.condition.2 a needed;
   }
 
   undo_into : (s : ℕ) → MayUndo row s → StepMay row.definition l s transition.StartUndo
   undo_into s may = record {
     is_step = may.is_step;
-    begins = sym (f.states_are s may.is_step) ∙ may.committed;
+    begins = unvoided-commits (state l s) (ap commits (sym (f.states_are s may.is_step)) ∙ may.committed);
     condition = (sym f.turn_is ∙ may.going, sym (f.goal_is s may.is_step) ∙ may.unwanted, λ b needed. sym (off_as b s needed) ∙ may.off b needed);
   }
 
@@ -96,37 +98,39 @@ module _ (shelf : List Contents) (row : Row) (l : List Change) (f : Follows shel
     is_step = may.is_step;
     going = f.turn_is ∙ may.condition.0;
     unwanted = f.goal_is s may.is_step ∙ may.condition.1;
-    committed = f.states_are s may.is_step ∙ may.begins;
+    committed = ap commits (f.states_are s may.is_step) ∙ commits-unvoided (state l s) may.begins;
     off = λ b needed. off_as b s needed ∙ may.condition.2 b needed;
   }
 
   in_into : (s : ℕ) (x : StepState) → IsIn row s x → state l s ≡ x
   in_into s x is = sym (f.states_are s is.is_step) ∙ is.here
 
-  in_from : (s : ℕ) (x : StepState) → s < length row.definition.steps → state l s ≡ x → IsIn row s x
-  in_from s x lt is = record { is_step = lt; here = f.states_are s lt ∙ is }
+  in_from : (s : ℕ) (x : StepState) → x ≢ Committed → s < length row.definition.steps → unvoided (state l s) ≡ x → IsIn row s x
+  in_from s x apart lt is = record { is_step = lt; here = f.states_are s lt ∙ itself_but_committed (state l s) x apart is }
 
   -- what the row allows is allowed
   pub may_into : (s : ℕ) (t : Transition) → IsLegalUnder row.definition l → RowMay row s t → StepMay row.definition l s t
   may_into s transition.StartRun legal may = run_into s may
-  may_into s transition.Commit legal may = record { is_step = may.is_step; begins = in_into s Running may; condition = tt }
-  may_into s transition.Missed legal may = record { is_step = may.0.is_step; begins = in_into s Running may.0; condition = omega (arith, may.1, f.misses_are s may.0.is_step) }
-  may_into s transition.Fail legal may = record { is_step = may.0.is_step; begins = in_into s Running may.0; condition = let few = (few_of row.definition l s f.sound legal may.0.is_step).few in omega (arith, may.1, f.misses_are s may.0.is_step, few) }
+  may_into s transition.Commit legal may = record { is_step = may.is_step; begins = ap unvoided (in_into s Running may); condition = tt }
+  may_into s transition.Void legal may = record { is_step = may.is_step; begins = ap unvoided (in_into s Running may); condition = tt }
+  may_into s transition.Missed legal may = record { is_step = may.0.is_step; begins = ap unvoided (in_into s Running may.0); condition = omega (arith, may.1, f.misses_are s may.0.is_step) }
+  may_into s transition.Fail legal may = record { is_step = may.0.is_step; begins = ap unvoided (in_into s Running may.0); condition = let few = (few_of row.definition l s f.sound legal may.0.is_step).few in omega (arith, may.1, f.misses_are s may.0.is_step, few) }
   may_into s transition.StartUndo legal may = undo_into s may
-  may_into s transition.Undone legal may = record { is_step = may.is_step; begins = in_into s Undoing may; condition = tt }
-  may_into s transition.UndoMissed legal may = record { is_step = may.0.is_step; begins = in_into s Undoing may.0; condition = omega (arith, may.1, f.undo_misses_are s may.0.is_step) }
-  may_into s transition.UndoFail legal may = record { is_step = may.0.is_step; begins = in_into s Undoing may.0; condition = let few = (few_of row.definition l s f.sound legal may.0.is_step).few_undo in omega (arith, may.1, f.undo_misses_are s may.0.is_step, few) }
+  may_into s transition.Undone legal may = record { is_step = may.is_step; begins = ap unvoided (in_into s Undoing may); condition = tt }
+  may_into s transition.UndoMissed legal may = record { is_step = may.0.is_step; begins = ap unvoided (in_into s Undoing may.0); condition = omega (arith, may.1, f.undo_misses_are s may.0.is_step) }
+  may_into s transition.UndoFail legal may = record { is_step = may.0.is_step; begins = ap unvoided (in_into s Undoing may.0); condition = let few = (few_of row.definition l s f.sound legal may.0.is_step).few_undo in omega (arith, may.1, f.undo_misses_are s may.0.is_step, few) }
 
   -- and the other way round
   pub may_from : (s : ℕ) (t : Transition) → StepMay row.definition l s t → RowMay row s t
   may_from s transition.StartRun may = run_from s may
-  may_from s transition.Commit may = in_from s Running may.is_step may.begins
-  may_from s transition.Missed may = (in_from s Running may.is_step may.begins, omega (arith, may.condition, f.misses_are s may.is_step))
-  may_from s transition.Fail may = (in_from s Running may.is_step may.begins, omega (arith, may.condition, f.misses_are s may.is_step))
+  may_from s transition.Commit may = in_from s Running (λ is. cc) may.is_step may.begins
+  may_from s transition.Void may = in_from s Running (λ is. cc) may.is_step may.begins
+  may_from s transition.Missed may = (in_from s Running (λ is. cc) may.is_step may.begins, omega (arith, may.condition, f.misses_are s may.is_step))
+  may_from s transition.Fail may = (in_from s Running (λ is. cc) may.is_step may.begins, omega (arith, may.condition, f.misses_are s may.is_step))
   may_from s transition.StartUndo may = undo_from s may
-  may_from s transition.Undone may = in_from s Undoing may.is_step may.begins
-  may_from s transition.UndoMissed may = (in_from s Undoing may.is_step may.begins, omega (arith, may.condition, f.undo_misses_are s may.is_step))
-  may_from s transition.UndoFail may = (in_from s Undoing may.is_step may.begins, omega (arith, may.condition, f.undo_misses_are s may.is_step))
+  may_from s transition.Undone may = in_from s Undoing (λ is. cc) may.is_step may.begins
+  may_from s transition.UndoMissed may = (in_from s Undoing (λ is. cc) may.is_step may.begins, omega (arith, may.condition, f.undo_misses_are s may.is_step))
+  may_from s transition.UndoFail may = (in_from s Undoing (λ is. cc) may.is_step may.begins, omega (arith, may.condition, f.undo_misses_are s may.is_step))
 
   -- there is room to count one miss more
   pub has_room : (s : ℕ) (t : Transition) → IsLegalUnder row.definition l → s < length row.definition.steps → HasRoom row s t

@@ -15,7 +15,8 @@ use Rattle.saga_def.proofs.AdjacencyLemmas.{sum_of, sum_on, occurs_both, needs_o
 use Rattle.saga_case.specs.Flow.{sum_below}
 use Rattle.saga_case.proofs.SumLemmas.{sum_none, sum_more, sum_same, sum_zero}
 use Rattle.saga_case.specs.declared.states.StepState.{StepState}
-use Rattle.saga_case.specs.declared.states.StepState.TheVariants.{Waiting, Committed}
+use Rattle.saga_case.specs.declared.states.StepState.TheVariants.{Waiting, Committed, Void}
+use Rattle.saga_case.specs.States.{commits}
 use Rattle.saga_history.specs.declared.turns.Turn.{Turn}
 use Rattle.saga_history.specs.declared.turns.Turn.TheVariants.{Going, Draining}
 use Rattle.saga_history.specs.States.{is_standing, is_off, is_busy}
@@ -275,10 +276,17 @@ holds_none : (c : Contents) (states : List StepState) (s b : ℕ) → IsSound c 
 holds_none c states s b sound none needed = pass_all (λ b. is_off (state_at states b)) (λ (n : Need). n.on) (λ (n : Need). n.step) c.needs s (record { step = b; on = s })
     (sym (sum_on (λ b. one_if (not (is_off (state_at states b)))) c s sound.known) ∙ none) needed refl
 
-committed_from : (x : StepState) (g : Bool) (u h : ℕ) → is_ready x g u h ≡ true → (x ≡ Waiting → ⊥) → x ≡ Committed
+-- a step that is ready and not waiting counts as committed
+committed_from : (x : StepState) (g : Bool) (u h : ℕ) → is_ready x g u h ≡ true → (x ≡ Waiting → ⊥) → commits x ≡ true
 committed_from Waiting g u h e ne = absurd (ne refl)
 committed_from Committed g u h e ne = refl
+committed_from Void g u h e ne = refl
 committed_from _ g u h e ne = absurd (false≢true e)
+
+ready_committed : (x : StepState) (g : Bool) (u h : ℕ) → commits x ≡ true → is_ready x g u h ≡ (not g && h == 0)
+ready_committed Committed g u h is = refl
+ready_committed Void g u h is = refl
+ready_committed _ g u h is = absurd (false≢true is)
 
 -- what a row's tables say
 module _ (c : Contents) (states : List StepState) (goal : List Bool) (turn : Turn) (misses undo_misses : List ℕ) (aborted : Bool) (unmet held : List ℕ) (busy unfinished : ℕ) (ready : List Bool) (old : IsRow c states goal unmet held busy unfinished ready) where
@@ -301,7 +309,7 @@ module _ (c : Contents) (states : List StepState) (goal : List Bool) (turn : Tur
   may_undo s lt going marked apart =
       let e : is_ready (state_at states s) (get_or goal s false) (get_or unmet s 0) (get_or held s 0) ≡ true = sym (old.ready_is s lt) ∙ marked in
       let committed = committed_from (state_at states s) (get_or goal s false) (get_or unmet s 0) (get_or held s 0) e apart in
-      let two = and_both (not (get_or goal s false)) (get_or held s 0 == 0) (rw committed at e) in
+      let two = and_both (not (get_or goal s false)) (get_or held s 0 == 0) (sym (ready_committed (state_at states s) (get_or goal s false) (get_or unmet s 0) (get_or held s 0) committed) ∙ e) in
       record {
         is_step = lt;
         going = going;
@@ -318,13 +326,13 @@ module _ (c : Contents) (states : List StepState) (goal : List Bool) (turn : Tur
   undo_ready : (s : ℕ) → MayUndo the_row s → get_or ready s false ≡ true
   undo_ready s may =
       let none : get_or held s 0 ≡ 0 = old.counted.held_is s may.is_step ∙ no_holds c states s old.sound may.off in
-      old.ready_is s may.is_step ∙ rw (may.committed, may.unwanted, none) refl
+      old.ready_is s may.is_step ∙ ready_committed (state_at states s) (get_or goal s false) (get_or unmet s 0) (get_or held s 0) may.committed ∙ rw (may.unwanted, none) refl
 
   pub run_exactly : (s : ℕ) → s < length c.steps → turn ≡ Going → state_at states s ≡ Waiting → IsTrue (get_or ready s false) ↔ MayRun the_row s
   run_exactly s lt going waiting = (λ on. may_run s lt going on waiting, λ may. run_ready s may)
 
-  pub undo_exactly : (s : ℕ) → s < length c.steps → turn ≡ Going → state_at states s ≡ Committed → IsTrue (get_or ready s false) ↔ MayUndo the_row s
-  undo_exactly s lt going committed = (λ on. may_undo s lt going on (λ waiting. let bad : Committed ≡ Waiting = sym committed ∙ waiting in cc), λ may. undo_ready s may)
+  pub undo_exactly : (s : ℕ) → s < length c.steps → turn ≡ Going → commits (state_at states s) ≡ true → IsTrue (get_or ready s false) ↔ MayUndo the_row s
+  undo_exactly s lt going committed = (λ on. may_undo s lt going on (λ waiting. absurd (false≢true (sym (ap commits waiting) ∙ committed))), λ may. undo_ready s may)
 
   pub plan_exactly : turn ≡ Draining → IsTrue (busy == 0) ↔ MayPlan the_row
   plan_exactly draining = (

@@ -52,6 +52,7 @@ IsDrained row = (s : ℕ) → s < length row.definition.steps → is_busy (state
 abbrev pub RowMay : Row → ℕ → Transition → Type 0
 RowMay row s transition.StartRun = MayRun row s
 RowMay row s transition.Commit = IsIn row s Running
+RowMay row s transition.Void = IsIn row s Running
 RowMay row s transition.Missed = IsIn row s Running × (misses_at row s + 1 < tries row.definition s)
 RowMay row s transition.Fail = IsIn row s Running × (tries row.definition s ≤ misses_at row s + 1)
 RowMay row s transition.StartUndo = MayUndo row s

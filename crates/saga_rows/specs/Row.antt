@@ -3,7 +3,8 @@ use Rattle.std.specs.Prelude.{ℕ, Bool, List, replicate, true, false, length, s
 use Rattle.saga_def.specs.Contents.{Contents}
 use Rattle.saga_def.specs.Order.{NeedsDirectly}
 use Rattle.saga_case.specs.declared.states.StepState.{StepState}
-use Rattle.saga_case.specs.declared.states.StepState.TheVariants.{Waiting, Committed}
+use Rattle.saga_case.specs.declared.states.StepState.TheVariants.{Waiting}
+use Rattle.saga_case.specs.States.{commits}
 use Rattle.saga_case.specs.declared.answers.Answer.{Answer}
 use Rattle.saga_case.specs.declared.answers.Answer.TheVariants as answer
 use Rattle.saga_history.specs.declared.turns.Turn.{Turn}
@@ -51,7 +52,7 @@ pub record MayUndo (row : Row) (s : ℕ) : Type 0 where
   pub is_step : s < length row.definition.steps
   pub going : row.turn ≡ Going
   pub unwanted : mark_at row.goal s ≡ false
-  pub committed : state_at row.states s ≡ Committed
+  pub committed : commits (state_at row.states s) ≡ true
   pub off : (b : ℕ) → NeedsDirectly row.definition.needs b s → is_off (state_at row.states b) ≡ true
 
 -- a plan may start

@@ -6,7 +6,7 @@ use Rattle.saga_def.specs.Neighbours.{needs_of, needed_by}
 use Rattle.saga_def.specs.Sound.{IsSound}
 use Rattle.saga_case.specs.Flow.{sum_below}
 use Rattle.saga_case.specs.declared.states.StepState.{StepState}
-use Rattle.saga_case.specs.declared.states.StepState.TheVariants.{Waiting, Committed}
+use Rattle.saga_case.specs.declared.states.StepState.TheVariants.{Waiting, Committed, Void}
 use Rattle.saga_history.specs.States.{is_standing, is_busy, is_off}
 use Rattle.saga_rows.specs.Row.{state_at, mark_at, is_finished, one_if}
 
@@ -22,6 +22,7 @@ held_of c states s = count_by (λ b. not (is_off (state_at states b))) (needed_b
 abbrev pub is_ready : StepState → Bool → ℕ → ℕ → Bool
 is_ready Waiting wanted unmet held = wanted && unmet == 0
 is_ready Committed wanted unmet held = not wanted && held == 0
+is_ready Void wanted unmet held = not wanted && held == 0
 is_ready _ wanted unmet held = false
 
 abbrev pub ready_at : List StepState → List Bool → List ℕ → List ℕ → ℕ → Bool

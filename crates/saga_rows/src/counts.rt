@@ -80,7 +80,7 @@ fn is_ready(state: StepState, wanted: bool, unmet: u16, held: u16) -> bool
 {
     match state {
         StepState::Waiting => wanted && unmet == 0,
-        StepState::Committed => !wanted && held == 0,
+        StepState::Committed | StepState::Void => !wanted && held == 0,
         _ => false,
     }
 }

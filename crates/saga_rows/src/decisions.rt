@@ -61,7 +61,7 @@ impl<'d> Row<'d> {
     {
         match t {
             Transition::StartRun => self.may_run(step),
-            Transition::Commit => self.is_in(step, StepState::Running),
+            Transition::Commit | Transition::Void => self.is_in(step, StepState::Running),
             Transition::Missed => {
                 self.is_in(step, StepState::Running) && self.is_tried_again(step, Kind::Run)
             }

@@ -348,7 +348,7 @@ impl<'d> Row<'d> {
         if self.turn != Turn::Going {
             return false;
         }
-        if self.states[s as usize] != StepState::Committed {
+        if !self.states[s as usize].commits() {
             return false;
         }
         self.ready.has(s as usize)

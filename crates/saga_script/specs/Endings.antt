@@ -3,16 +3,18 @@ use Rattle.std.specs.Prelude.{ℕ, ◌==◌, Bool, true, false, Option, Some, No
 use Rattle.saga_history.specs.declared.tasks.Outcome.{Outcome}
 use Rattle.saga_history.specs.declared.tasks.Outcome.TheVariants as outcome
 use Rattle.saga_script.specs.declared.endings.Ending.{Ending}
-use Rattle.saga_script.specs.declared.endings.Ending.TheVariants.{Done, Failed, DoneThenAbort}
+use Rattle.saga_script.specs.declared.endings.Ending.TheVariants.{Done, Void, Failed, DoneThenAbort}
 
 abbrev pub outcome_of : Ending → Outcome
 outcome_of Done = outcome.Done
+outcome_of Void = outcome.Void
 outcome_of Failed = outcome.Failed
 outcome_of DoneThenAbort = outcome.Done
 
 -- the saga is aborted after it
 abbrev pub asks_abort : Ending → Bool
 asks_abort Done = false
+asks_abort Void = false
 asks_abort Failed = false
 asks_abort DoneThenAbort = true
 

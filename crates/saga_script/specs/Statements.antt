@@ -5,7 +5,7 @@ use Rattle.std.specs.Str.{bytes_eq}
 use Rattle.saga_def.specs.Rules.{is_letter, is_name_byte}
 use Rattle.saga_def.specs.Limits.{max_name}
 use Rattle.saga_script.specs.declared.endings.Ending.{Ending}
-use Rattle.saga_script.specs.declared.endings.Ending.TheVariants.{Done, Failed, DoneThenAbort}
+use Rattle.saga_script.specs.declared.endings.Ending.TheVariants.{Done, Void, Failed, DoneThenAbort}
 use Rattle.saga_script.specs.declared.statements.Statement.{Statement as Declared}
 
 -- how an action of a step of a saga ends: the step's name, whether it is the compensation, and the attempt unless it is
@@ -54,8 +54,9 @@ action_of part =
 abbrev pub ending_of_word : List ℕ → Option Ending
 ending_of_word part =
     if bytes_eq part (codes "ok") then Some Done
+    else (if bytes_eq part (codes "void") then Some Void
     else (if bytes_eq part (codes "fail") then Some Failed
-    else (if bytes_eq part (codes "abort") then Some DoneThenAbort else None))
+    else (if bytes_eq part (codes "abort") then Some DoneThenAbort else None)))
 
 -- one digit except 0
 abbrev pub attempt_of : List ℕ → Option ℕ

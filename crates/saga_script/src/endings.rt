@@ -8,6 +8,8 @@ use saga_history::Outcome;
 #[derive(Clone, Copy, Debug, PartialEq, Eq)]
 pub enum Ending {
     Done,
+    /// It ends without an effect.
+    Void,
     Failed,
     /// It succeeds, and the saga is aborted after it.
     DoneThenAbort,
@@ -23,6 +25,7 @@ impl Ending {
     {
         match self {
             Ending::Done | Ending::DoneThenAbort => Outcome::Done,
+            Ending::Void => Outcome::Void,
             Ending::Failed => Outcome::Failed,
         }
     }

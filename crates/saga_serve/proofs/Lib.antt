@@ -1,4 +1,5 @@
 mod LineLemmas
+mod RestLemmas
 mod ShownLemmas
 mod DriveLemmas
 mod SurvivalLemmas

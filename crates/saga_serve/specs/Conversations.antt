@@ -15,6 +15,7 @@ use Rattle.saga_drive.specs.Restarts.{IsRestarted}
 use Rattle.saga_drive.specs.declared.restarts.Restart.{Restart}
 use Rattle.saga_serve.specs.Inputs.{Input}
 use Rattle.saga_serve.specs.Limits.{max_written}
+use Rattle.saga_serve.specs.Logs.{LogGoesOn}
 use Rattle.saga_serve.specs.declared.growing.Due.{Due}
 use Rattle.saga_serve.specs.Shelves.{IsPut, IsWelcome}
 use Rattle.saga_serve.specs.Shown.{shown}
@@ -55,11 +56,12 @@ Does true old new room request reply =
     IsResponse old new room request (response.Reply reply) ⊎ ((text : List ℕ) × Defines request text × IsPut old new text reply)
 
 -- a request gets a text, which has the log lines before the reply if log lines are printed; the conversation goes from
--- the old state to the new one
+-- the old state to the new one; the log of the old book with these lines is the log of the new book
 pub record Says (shows : Bool) (old : Stand) (request : List ℕ) (new : Stand) (text : List ℕ) : Type 0 where
   pub reply : Reply
   pub answer : Does shows old.0 new.0 old.1 request reply
   pub room : new.1 ≡ old.1 - length (lines_of reply)
+  pub logs : LogGoesOn old.0 new.0 (lines_of reply)
   pub text_is : text ≡ shown shows (lines_of reply) ++ text_of reply
 
 -- the prefix of a line that is read; it is long enough to show that a line is too long
@@ -80,6 +82,7 @@ pub record Begins (shows : Bool) (old new : Stand) (text : List ℕ) : Type 0 wh
   pub none : NoneIsPlanned new.0 (next_of old.0)
   pub silent : text_of dropped ≡ []
   pub room : new.1 ≡ old.1 - length (lines_of dropped)
+  pub logs : LogGoesOn old.0 new.0 (lines_of dropped)
   pub text_is : text ≡ shown shows (lines_of dropped) ++ text_of dropped
 
 -- after the earlier output, the output is exactly the replies to all that has arrived

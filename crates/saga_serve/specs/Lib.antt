@@ -7,3 +7,5 @@ pub mod Inputs
 pub mod Shelves
 pub mod Conversations
 pub mod Drives
+pub mod Rests
+pub mod Kinds

@@ -93,6 +93,8 @@ impl Input {
         requires heard { self.old.left ≡ [] }
         requires told { (waiting.now ≡ []) ⊎ (A.arrived arrivals.old ≡ []) }
         ensures more { IfOk result (λ more. Arrives more begun self.old (A.arrived arrivals.old) self.new (A.arrived arrivals.new)) }
+        // true comes with a byte, so a conversation that hears it has something to do
+        ensures some { IfOk result (λ more. more ≡ true → 0 < length self.new.left) }
         ensures none { OnErr result (A.arrived arrivals.new ≡ A.arrived arrivals.old) }
         ensures stop { IfErr result (HaltsAs IsLate) }
     {

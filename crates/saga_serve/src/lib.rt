@@ -4,9 +4,10 @@
 //! until standard input ends. Each request is one line. An implementation of [`Outside`] gives the
 //! files and streams.
 //!
-//! With a log, [`drive_texts`] calls [`drive_log`]. The contract of [`drive_log`] says two things.
-//! Each reply that was written survives a crash. The replies are those to all requests that
-//! arrived, each once, in order.
+//! With a log, [`drive_texts`] calls [`drive_log`]. The contract of [`drive_log`] says three things
+//! of a drive that ends. Each reply that was written rests on the log of the book that has answered
+//! it. Each reply survives a crash. The replies are those to all requests that arrived, each once,
+//! in order.
 //!
 //! [`drive_lines`] writes no log. Before each reply it shows the log lines of that reply, for a
 //! program that stores them. It calls [`show_log`], whose contract says which replies and lines it
@@ -17,6 +18,7 @@ mod besides;
 mod endings;
 mod growing;
 mod inputs;
+mod kinds;
 mod laws;
 mod limits;
 mod lines;
@@ -31,7 +33,8 @@ mod streams;
 mod talks;
 
 pub use endings::{Ending, Stream};
-pub use laws::shelf_laws;
+pub use kinds::Books;
+pub use laws::{rests_laws, shelf_laws};
 pub use limits::MAX_BESIDE;
 pub use lines::{drive_lines, show_log};
 pub use outside::{FileFault, OpenFault, Outside};

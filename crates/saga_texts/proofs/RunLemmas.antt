@@ -48,6 +48,7 @@ mark_told may told may_abort told_abort w v shelf h (mark.Undone i s) is = end_t
 mark_told may told may_abort told_abort w v shelf h (mark.UndoFail i s) is = end_told may told w shelf h i s _ is
 mark_told may told may_abort told_abort w v shelf h (mark.Missed i s) is = end_told may told w shelf h i s _ is
 mark_told may told may_abort told_abort w v shelf h (mark.UndoMissed i s) is = end_told may told w shelf h i s _ is
+mark_told may told may_abort told_abort w v shelf h (mark.Void i s) is = end_told may told w shelf h i s _ is
 mark_told may told may_abort told_abort w v shelf h (mark.Abort i) is = v i is
 mark_told may told may_abort told_abort w v shelf h _ is = tt
 

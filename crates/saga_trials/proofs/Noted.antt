@@ -1,5 +1,5 @@
 -- What is noted of the events that a book gains.
-use Rattle.std.proofs.Common.{◌≡◌, ℕ, ◌+◌, ◌++◌, ◌∷◌, Bool, true, false, List, [], append_assoc, refl, ap, subst, ◌∙◌}
+use Rattle.std.proofs.Common.{◌≡◌, ◌⊎◌, inl, inr, ℕ, ◌+◌, ◌++◌, ◌∷◌, Bool, true, false, List, [], append_assoc, refl, ap, subst, ◌∙◌}
 use Rattle.std.specs.Prelude.{nat_lt, if◌then◌else◌}
 use Rattle.saga_case.specs.declared.answers.Answer.{Answer}
 use Rattle.std.proofs.lemmas.List.Elements.{filter_map-append}
@@ -9,7 +9,8 @@ use Rattle.saga_history.specs.Changes.{step_event}
 use Rattle.saga_history.specs.declared.events.Event.{Event}
 use Rattle.saga_history.specs.declared.events.Event.TheVariants as event
 use Rattle.saga_history.specs.declared.tasks.Kind.TheVariants.{Run, Undo}
-use Rattle.saga_history.specs.declared.tasks.Outcome.TheVariants.{Done, Failed}
+use Rattle.saga_history.specs.declared.tasks.Outcome.TheVariants.{Done, Void, Failed}
+use Rattle.saga_history.specs.declared.tasks.Outcome.{Outcome}
 use Rattle.saga_history.specs.declared.transitions.Transition.{Transition}
 use Rattle.saga_history.specs.declared.transitions.Transition.TheVariants.{Fail, Missed}
 use Rattle.saga_trials.specs.declared.trips.Entry.{Entry}
@@ -43,7 +44,7 @@ refused : (again : Bool) (i s : ℕ) → entries_of (step_event i s (if again th
 refused true i s = refl
 refused false i s = refl
 
-pub noted_refused : (old mid new : Book) (i s : ℕ)
+noted_refused : (old mid new : Book) (i s : ℕ)
     → mid ≡ with_event old (event.StartRun i s) → IsReported Run mid new i s Failed
     → AreNoted old new (Refused i s ∷ [])
 noted_refused old mid new i s began (t, (misses, tries, is), gained) =
@@ -51,6 +52,22 @@ noted_refused old mid new i s began (t, (misses, tries, is), gained) =
     (subst (λ (xs : List Entry). AreNoted mid new xs)
     (ap (λ (t' : Transition). entries_of (step_event i s t' ∷ [])) is ∙ refused (nat_lt (misses + 1) tries) i s)
     (noted_event mid new (step_event i s t) gained.gains))
+
+-- a step that is run without an effect
+noted_void : (old mid new : Book) (i s : ℕ)
+    → mid ≡ with_event old (event.StartRun i s) → IsReported Run mid new i s Void
+    → AreNoted old new (Refused i s ∷ [])
+noted_void old mid new i s began (t, (_, _, is), gained) =
+    noted_both old mid new [] (Refused i s ∷ []) (noted_event old mid (event.StartRun i s) began)
+    (subst (λ (t' : Transition). AreNoted mid new (entries_of (step_event i s t' ∷ []))) is
+    (noted_event mid new (step_event i s t) gained.gains))
+
+-- in both cases nothing was booked
+pub noted_unbooked : (old mid new : Book) (i s : ℕ) (o : Outcome) → (o ≡ Void) ⊎ (o ≡ Failed)
+    → mid ≡ with_event old (event.StartRun i s) → IsReported Run mid new i s o
+    → AreNoted old new (Refused i s ∷ [])
+noted_unbooked old mid new i s o (inl is) began told = noted_void old mid new i s began (subst (λ (o' : Outcome). IsReported Run mid new i s o') is told)
+noted_unbooked old mid new i s o (inr is) began told = noted_refused old mid new i s began (subst (λ (o' : Outcome). IsReported Run mid new i s o') is told)
 
 -- a compensation that is begun and done
 pub noted_cancelled : (old mid new : Book) (i s : ℕ)

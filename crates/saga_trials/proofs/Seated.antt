@@ -27,7 +27,7 @@ use Rattle.saga_trials.specs.Seats.{BookHasSeats, EntryHasSeat, HasSeat, MayAnsw
 -- an action that is done, and nothing else, ends by that transition
 commits : (k : Kind) (o : Outcome) (t : Transition) → IsEndOf k o t → t ≡ Commit → (k ≡ Run) × (o ≡ Done)
 commits = of_end (λ k o t. t ≡ Commit → (k ≡ Run) × (o ≡ Done))
-    (λ e. (refl, refl)) (λ e. cc) (λ e. cc) (λ e. cc) (λ e. cc) (λ e. cc)
+    (λ e. (refl, refl)) (λ e. cc) (λ e. cc) (λ e. cc) (λ e. cc) (λ e. cc) (λ e. cc) (λ e. cc)
 
 is_action : (undo : Bool) → kind_of undo ≡ Run → undo ≡ false
 is_action false e = refl
@@ -56,6 +56,7 @@ seated_event agency may_abort shelf h (event.Adopt i a) told = All-nil (EntryHas
 seated_event agency may_abort shelf h (event.Missed i s) told = All-cons (EntryHasSeat agency) (Refused i s) [] tt (All-nil (EntryHasSeat agency))
 seated_event agency may_abort shelf h (event.UndoMissed i s) told = All-nil (EntryHasSeat agency)
 seated_event agency may_abort shelf h (event.Abort i) told = All-nil (EntryHasSeat agency)
+seated_event agency may_abort shelf h (event.Void i s) told = All-cons (EntryHasSeat agency) (Refused i s) [] tt (All-nil (EntryHasSeat agency))
 
 -- the entries of a history, by its past
 seated_past : (agency : Agency) (may_abort : ℕ → Type 0) (shelf : List Contents) (h : List Event)

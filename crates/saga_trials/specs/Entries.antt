@@ -7,7 +7,8 @@ use Rattle.saga_history.specs.declared.events.Event.TheVariants as event
 use Rattle.saga_trials.specs.declared.trips.Entry.{Entry}
 use Rattle.saga_trials.specs.declared.trips.Entry.TheVariants.{Booked, Refused, Cancelled}
 
--- the end of an action has an entry, and so has the end of a compensation, which never fails here
+-- the end of an action has an entry, and so has the end of a compensation, which never fails here; an action without an
+-- effect booked nothing
 abbrev pub entry_of : Event → Option Entry
 entry_of (event.Open i k) = None
 entry_of (event.StartRun i s) = None
@@ -22,6 +23,7 @@ entry_of (event.Adopt i a) = None
 entry_of (event.Missed i s) = Some (Refused i s)
 entry_of (event.UndoMissed i s) = None
 entry_of (event.Abort i) = None
+entry_of (event.Void i s) = Some (Refused i s)
 
 abbrev pub entries_of : List Event → List Entry
 entries_of h = filter_map entry_of h

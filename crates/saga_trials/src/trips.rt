@@ -11,7 +11,7 @@ use anyhow::{Context, Error, Result, anyhow, ensure};
 use saga_check::verify;
 use saga_core::Book;
 use saga_def::Definition;
-use saga_history::Outcome::{Done, Failed};
+use saga_history::Outcome::{Done, Failed, Void};
 use saga_history::Task;
 use saga_plan::plan;
 use saga_work::run_all;
@@ -43,7 +43,7 @@ fn book_step(agency: &Agency, book: &mut Book, trip: u32, step: u16) -> Result<E
     book.report_run(trip, step, outcome).map_err(refused)?;
     Ok(match outcome {
         Done => Entry::Booked(trip, step),
-        Failed => Entry::Refused(trip, step),
+        Void | Failed => Entry::Refused(trip, step),
     })
 }
 

@@ -3,7 +3,7 @@ use Rattle.std.specs.Prelude.{ℕ, List, [], ◌∷◌, Option, Some, None, code
 use Rattle.std.specs.List.{concat, range_with_len}
 use Rattle.saga_def.specs.Contents.{Contents}
 use Rattle.saga_case.specs.declared.states.StepState.{StepState}
-use Rattle.saga_case.specs.declared.states.StepState.TheVariants.{Waiting, Running, Committed, Failed, Undoing, Undone, Fixed}
+use Rattle.saga_case.specs.declared.states.StepState.TheVariants.{Waiting, Running, Committed, Void, Failed, Undoing, Undone, Fixed}
 use Rattle.saga_history.specs.declared.tasks.Kind.TheVariants.{Run, Undo}
 use Rattle.saga_history.specs.Changes.{Change}
 use Rattle.saga_history.specs.States.{state}
@@ -17,6 +17,7 @@ abbrev pub busy_in : StepState → Saga → ℕ → List (List ℕ)
 busy_in Waiting saga s = []
 busy_in Running saga s = taken_text Run saga s ∷ []
 busy_in Committed saga s = []
+busy_in Void saga s = []
 busy_in Failed saga s = []
 busy_in Undoing saga s = taken_text Undo saga s ∷ []
 busy_in Undone saga s = []

@@ -85,6 +85,7 @@ opened_are (event.DropPlan i ∷ h) = opened_are h
 opened_are (event.Adopt i a ∷ h) = opened_are h
 opened_are (event.Missed i s ∷ h) = opened_are h
 opened_are (event.UndoMissed i s ∷ h) = opened_are h
+opened_are (event.Void i s ∷ h) = opened_are h
 opened_are (event.Abort i ∷ h) = opened_are h
 
 by_number : (c stride : ℕ) (ps : List (ℕ × ℕ))

@@ -33,6 +33,7 @@ opening (mark.Adopt i) = []
 opening (mark.Missed i s) = []
 opening (mark.UndoMissed i s) = []
 opening (mark.Abort i) = []
+opening (mark.Void i s) = []
 
 -- an event that a worker may add: it is not an opening
 abbrev pub IsWork : Mark → Type 0

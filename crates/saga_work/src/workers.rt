@@ -57,7 +57,7 @@ fn aborts_after<A: Actor>(actor: &A, job: &Job<'_>, outcome: Outcome) -> bool
 {
     match outcome {
         Outcome::Done => actor.asks_abort(job),
-        Outcome::Failed => false,
+        Outcome::Void | Outcome::Failed => false,
     }
 }
 

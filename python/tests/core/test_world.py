@@ -57,13 +57,16 @@ async def simple(task: sagas.Task[Any]) -> None:
     """As `nothing`."""
 
 
-def declare(saga: sagas.Saga, drawn: list[StepDraw], number: int, manner: str) -> None:
-    """Declare one step of that kind."""
+def declare(
+    saga: sagas.Saga, drawn: list[StepDraw], number: int, manner: str, is_optional: bool
+) -> None:
+    """Declare one step of that kind. It is not optional if it must not be skipped."""
     drawn_step = drawn[number]
     options: dict[str, Any] = {
         "name": drawn_step.name,
         "needs": [saga.steps[need] for need in drawn_step.needs],
         "skip": cost(drawn_step.skip),
+        "optional": is_optional and drawn_step.skip != "never",
     }
     if drawn_step.undo != "never":
         options["undo"] = cost(drawn_step.undo)
@@ -110,7 +113,7 @@ def definitions(draw: st.DrawFn) -> sagas.Saga:
     drawn = draw(steps())
     saga = sagas.Saga(f"saga{draw(st.integers(0, 10**6))}")
     for number in range(len(drawn)):
-        declare(saga, drawn, number, draw(MANNERS))
+        declare(saga, drawn, number, draw(MANNERS), draw(st.booleans()))
     return saga
 
 
@@ -119,7 +122,7 @@ def test_whatever_happens(part: int, monkeypatch: pytest.MonkeyPatch) -> None:
     """Each saga ends by the rules, over at least 25,000 transitions of attempts, shards and steps
     in each part.
     """
-    transitions = 0
+    transitions, voids = 0, 0
 
     def count(table: Any, before: Any, after: Any) -> None:
         nonlocal transitions
@@ -137,12 +140,14 @@ def test_whatever_happens(part: int, monkeypatch: pytest.MonkeyPatch) -> None:
         st.integers(0, 10**9),
     )
     def play(kinds: list[sagas.Saga], seed: int) -> None:
-        nonlocal transitions
+        nonlocal transitions, voids
         with tempfile.TemporaryDirectory() as folder:
             world = World(kinds, pathlib.Path(folder), seed + part, SAGAS)
             world.play(MOVES)
             world.judge()
             transitions += world.store.events
+            voids += world.store.text.count('"event":"void"')
 
     play()
     assert transitions >= 25_000, transitions
+    assert voids >= 10, voids

@@ -16,7 +16,7 @@ from sagas.cli.formatting import CANNOT, GOOD, NO, Progress, show_json, table
 from sagas.cli.snapshot import Snapshot
 from sagas.core import protocol
 from sagas.core.history import START_EVENTS
-from sagas.core.states import EVENT_STATES, UNDO_FAILED, EnginePhase, saga_phase
+from sagas.core.states import EVENT_STATES, UNDO_FAILED, EnginePhase, saga_phase, stored_event
 from sagas.definition.capacity import HEADER
 from sagas.engine.process import REPLY
 from sagas.inspection.names import step_names
@@ -66,7 +66,7 @@ class Events:
                 counts[key] = counts.get(key, 0) + 1
                 running[key[:2]] = *key, counts[key]
             elif name in EVENT_STATES:
-                self.attempts[running.pop((id, event["step"]))] = name
+                self.attempts[running.pop((id, event["step"]))] = stored_event(name)
         self.under_way = {*running.values()}
 
     def forget_attempts(self, sagas: Collection[int]) -> None:

@@ -25,7 +25,7 @@ from sagas.base.logger import logger
 from sagas.core.states import OutcomeKind
 from sagas.definition import serialization
 from sagas.definition.waits import Answer
-from sagas.definition.payloads import BlobUnavailable, Payloads
+from sagas.definition.payloads import LARGE_VALUE, BlobUnavailable, Payloads
 from sagas.definition.call_options import Exceptions, Manner
 from sagas.definition.task import Task
 
@@ -139,9 +139,14 @@ def failure(
 def optional_failure(detail: str) -> Outcome:
     """Return the failure of an optional step, or of a collected item, as the engine gets it.
 
-    It is stored as the result, and no codec encodes it. `detail`: what was raised.
+    It is stored as the result, and no codec encodes it. It is always held, because it is not a
+    large value: a text that is too long with its escapes is cut. `detail`: what was raised.
     """
-    return Outcome(SUCCEEDED, serialization.write({serialization.FAILED: detail}), encoded=True)
+    text = serialization.write({serialization.FAILED: detail})
+    while len(text) > LARGE_VALUE:
+        detail = detail[: len(detail) * LARGE_VALUE // len(text)]
+        text = serialization.write({serialization.FAILED: detail})
+    return Outcome(SUCCEEDED, text, encoded=True)
 
 
 def is_optional_failure(outcome: Outcome | None) -> bool:

@@ -40,6 +40,7 @@ from sagas.core.states import (
     EarlyReason,
     EnginePhase,
     RowState,
+    stored_event,
 )
 from sagas.definition import serialization
 from sagas.definition.capacity import SHARD_CAPACITY
@@ -102,13 +103,20 @@ def is_defined(reply: str, definition_index: int) -> bool:
     return reply == f'{{"def":{definition_index}}}'
 
 
-def report_line(saga: int, step: int, task: str, attempt: int, ok: bool) -> str:
+def report_line(saga: int, step: int, task: str, attempt: int, outcome: str) -> str:
     """Return the request that reports how an attempt of `run` or `undo` ended."""
-    outcome = "ok" if ok else "fail"
     return (
         f'{{"attempt":{attempt},"do":"report","outcome":"{outcome}","saga":{saga},'
         f'"step":{step},"task":"{task}"}}'
     )
+
+
+def reported_word(attempt: Attempt) -> str:
+    """Return the engine's word for how an attempt ended."""
+    outcome = attempt.outcome
+    if outcome is None or outcome.kind is not SUCCEEDED:
+        return "fail"
+    return "void" if not attempt.undo and is_optional_failure(outcome) else "ok"
 
 
 def take_lines(saga: int, step: int) -> tuple[str, str]:
@@ -270,14 +278,12 @@ def _add_reports(driver: ShardDriver, request: EngineRequest) -> None:
     request.reports = attempts
     deviating: list[Attempt] = []
     for attempt in attempts:
-        saga, outcome = attempt.instance, attempt.outcome
-        assert outcome
-        is_good = outcome.kind is SUCCEEDED
+        saga, word = attempt.instance, reported_word(attempt)
         request.lines.append(
-            report_line(saga.number, attempt.step, attempt.kind, attempt.attempt, is_good)
+            report_line(saga.number, attempt.step, attempt.kind, attempt.attempt, word)
         )
         saga.busy.pop(attempt.action.word, None)
-        if saga.has_deviated or not is_good or attempt.kind == "undo":
+        if saga.has_deviated or word != "ok" or attempt.kind == "undo":
             saga.has_deviated = True
             deviating.append(attempt)
     if deviating:
@@ -525,7 +531,7 @@ class ReplyReader:
             if event_phase is None:  # the attempt is over, or belonged to another node
                 location = f"saga {saga.number}, step {attempt.step}, attempt {attempt.attempt}"
                 raise EngineDisagrees(f"{location}: {reply}")
-            event, phase = event_phase
+            event, phase = stored_event(event_phase[0]), event_phase[1]
             assert outcome
             attempt.event = event
             value = outcome.value

@@ -41,7 +41,8 @@ from sagas.definition.serialization import FAILED_HEAD
 from sagas.definition.start_options import StartOptions
 
 DEVIATION_EVENTS = re.compile(
-    r'"event":"(?:missed|fail|start_undo|undone|undo_missed|undo_fail|abort|adopt)","saga":(\d+)'
+    r'"event":"(?:void|missed|fail|start_undo|undone|undo_missed|undo_fail|abort|adopt)",'
+    r'"saga":(\d+)'
 )
 """The events by which a saga deviates from success."""
 AttemptsUnderWay = dict[tuple[int, int, str, int], Attempt]

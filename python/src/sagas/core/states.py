@@ -160,6 +160,8 @@ class StepState(enum.StrEnum):
     WAITING = "waiting"
     RUNNING = "running"
     COMMITTED = "committed"
+    VOID = "void"
+    """It ended without an effect, as an optional step that failed: it costs nothing in a plan."""
     FAILED = "failed"
     COMPENSATING = "undoing"
     COMPENSATED = "undone"
@@ -215,8 +217,11 @@ class ShardState(enum.Enum):
 STEP_TRANSITIONS: Table[StepState] = {
     StepState.WAITING: frozenset({StepState.RUNNING}),
     # WAITING: it failed, and is retried
-    StepState.RUNNING: frozenset({StepState.COMMITTED, StepState.WAITING, StepState.FAILED}),
+    StepState.RUNNING: frozenset(
+        {StepState.COMMITTED, StepState.VOID, StepState.WAITING, StepState.FAILED}
+    ),
     StepState.COMMITTED: frozenset({StepState.COMPENSATING}),
+    StepState.VOID: frozenset({StepState.COMPENSATING}),
     # COMMITTED: the compensation failed, and is retried
     StepState.COMPENSATING: frozenset(
         {StepState.COMPENSATED, StepState.COMMITTED, StepState.COMPENSATION_FAILED}
@@ -251,9 +256,12 @@ SHARD_TRANSITIONS: Table[ShardState] = {
     ShardState.CLOSED: frozenset({ShardState.CLOSED}),
 }
 
+VOID_EVENT = "void"
+"""The engine's event for a step that ended without an effect."""
 EVENT_STATES: Mapping[str, StepState] = {
     "start_run": StepState.RUNNING,
     "commit": StepState.COMMITTED,
+    VOID_EVENT: StepState.VOID,
     "missed": StepState.WAITING,
     "fail": StepState.FAILED,
     "start_undo": StepState.COMPENSATING,
@@ -312,6 +320,14 @@ def step_state(text: str) -> StepState:
 def program_word(state: StepState) -> str:
     """Return the proved program's word for a step's state."""
     return UNDO_FAILED if state is StepState.COMPENSATION_FAILED else state.value
+
+
+def stored_event(event: str) -> str:
+    """Return the event that the row of an attempt has: `commit` also for a void step.
+
+    The value of that row says that the step failed.
+    """
+    return "commit" if event == VOID_EVENT else event
 
 
 def undo_failures(end: str) -> list[int]:

@@ -156,6 +156,8 @@ ESCAPED = '{"$plain":'
 """The beginning of a stored value that is escaped, because it begins as a reserved one."""
 ABSENT = '{"$absent":true}'
 """The placeholder of a stored value that is not in memory. It is never stored."""
+LARGE_VALUE = 4096
+"""Characters: a longer stored value is not held all the time."""
 RESERVED = (
     '{"$codec":',
     '{"$blob":',

@@ -30,8 +30,8 @@ class Choice:
         kept: Whether the plan keeps it.
         needed_by: If dropping it alone were not more expensive: the first kept step that needs it;
             else None.
-        is_optional_failure: Whether it has failed, and the saga continued without it. Its costs
-            count, but there is nothing to keep or to undo.
+        is_optional_failure: Whether it has failed, and the saga continued without it. It costs
+            nothing, because there is nothing to keep or to undo.
     """
 
     step: str
@@ -125,15 +125,22 @@ class Plan:
             for index, (step, state_word) in enumerate(zip(steps, self.case["states"]))
         ]
 
-    def _choice(self, step: ListedStep, state: str, kept: bool, needed: str | None) -> Choice:
+    def _costs(self, step: ListedStep, state: str) -> tuple[Cost, Cost]:
+        """Return the costs to keep a step, and to drop it. None: not allowed."""
         run, undo, skip, keep = map(_cost, (step.run, step.undo, step.skip, step.keep))
-        if state == "waiting":
-            keep_cost = None if self.case.get("aborted") else _sum(run, keep)
-        else:
-            keep_cost = keep if state in ("committed", "undo_failed") else None
-        drop_cost = (
-            None if state == "undo_failed" else _sum(undo, skip) if state == "committed" else skip
-        )
+        match state:
+            case "waiting":
+                return None if self.case.get("aborted") else _sum(run, keep), skip
+            case "committed":
+                return keep, _sum(undo, skip)
+            case "void":
+                return 0, None if skip is None else 0
+            case "undo_failed":
+                return keep, None
+        return None, skip
+
+    def _choice(self, step: ListedStep, state: str, kept: bool, needed: str | None) -> Choice:
+        keep_cost, drop_cost = self._costs(step, state)
         may_be_dropped = (
             state == "committed"
             and drop_cost is not None

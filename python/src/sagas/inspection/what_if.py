@@ -14,6 +14,8 @@ from sagas.inspection.views import SagaView, StepView
 MAX_LISTED = 8
 ENDS = {"running": "committed", "undoing": "undone"}
 """The states in which active steps are assumed to end."""
+DONE = ("committed", "void")
+"""The engine's states of a step after which the steps that need it can begin."""
 CALLED = ("external", "ordered", "unknown", "cannot_decode", "program_error", "no_definition")
 """Reasons of suspended attempts that may have had their effect. Other attempts are given up by an
 abort, and by a failure if the step may be attempted again.
@@ -132,7 +134,7 @@ def describe_completion(view: SagaView, step: str) -> str:
     """Describe what happens if a step, or its compensation, succeeds."""
     if view.aborted or any(other.engine_state in RECOVERS for other in view.steps):
         return describe(of(view, done=step))
-    done = {other.name for other in view.steps if other.engine_state == "committed"} | {step}
+    done = {other.name for other in view.steps if other.engine_state in DONE} | {step}
     left = [other for other in view.steps if other.name not in done]
     if not left:
         return "The saga is completed"

@@ -11,12 +11,11 @@ from typing import Any
 
 from sagas.base.errors import NoSuchSaga
 from sagas.core.shard.batch import SagaRow, StoredSaga
-from sagas.core.attempt.instance import LARGE_VALUE
 from sagas.definition import arguments
 from sagas.definition.capacity import SHARD_CAPACITY
 from sagas.definition.child_sagas import END, UNDO
 from sagas.definition.labels import is_hidden
-from sagas.definition.payloads import ABSENT
+from sagas.definition.payloads import ABSENT, LARGE_VALUE
 from sagas.storage.sqlite.schema import PLANNED, UNDO_FAILED
 
 SAGA = "id, key, saga, definition_index, input, at, phase, outcome, ended, note"

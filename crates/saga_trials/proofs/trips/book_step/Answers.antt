@@ -3,7 +3,7 @@ use Rattle.saga_core.specs.Refusals.{IsReported}
 use Rattle.saga_history.specs.declared.tasks.Kind.TheVariants.{Run}
 use Rattle.saga_history.specs.declared.tasks.Outcome.{Outcome}
 use Rattle.saga_trials.proofs.Accepted.{accepted}
-use Rattle.saga_trials.proofs.Noted.{noted_booked, noted_refused}
+use Rattle.saga_trials.proofs.Noted.{noted_booked, noted_unbooked}
 use Rattle.saga_trials.proofs.trips.book_step.Goals as goal
 
 pub returns-in-Done-clause-noted : goal.returns-in-Done-clause-noted
@@ -14,10 +14,8 @@ returns-in-Done-clause-noted c =
     c.in-Done.is
     (accepted c.report_run.result c.in_ok-map_err-2.ensures.variant c.report_run.ensures.ok))
 
-pub returns-in-Failed-clause-noted : goal.returns-in-Failed-clause-noted
-returns-in-Failed-clause-noted c =
-    noted_refused _ _ _ _ _
+pub returns-in-Void-clause-noted : goal.returns-in-Void-clause-noted
+returns-in-Void-clause-noted c =
+    noted_unbooked _ _ _ _ _ _ c.in-Void.is
     (accepted c.take_run.result c.in_ok-map_err.ensures.variant c.take_run.ensures.ok)
-    (subst (λ (o : Outcome). IsReported Run c.take_run.new.self c.report_run.new.self c.args.trip c.args.step o)
-    c.in-Failed.is
-    (accepted c.report_run.result c.in_ok-map_err-2.ensures.variant c.report_run.ensures.ok))
+    (accepted c.report_run.result c.in_ok-map_err-2.ensures.variant c.report_run.ensures.ok)

@@ -13,7 +13,7 @@ from sagas.core.states import AttemptState, EarlyReason
 from sagas.definition import start_options
 from sagas.definition.capacity import SHARD_CAPACITY
 from sagas.definition.compiled import ActionKey, CompiledDefinition
-from sagas.definition.payloads import ABSENT
+from sagas.definition.payloads import ABSENT, LARGE_VALUE
 from sagas.definition.layout import ShapeValues
 from sagas.definition.start_options import StartOptions
 
@@ -21,8 +21,6 @@ if TYPE_CHECKING:
     from sagas.core.attempt.model import Attempt
     from sagas.core.shard.driver import ShardDriver
 
-LARGE_VALUE = 4096
-"""Characters: a longer stored value is not held all the time."""
 RESTING = (AttemptState.SUSPENDED, AttemptState.QUEUED, AttemptState.FINISHED)
 """The states of attempts whose functions read no values now."""
 

@@ -685,15 +685,13 @@ def kept_outcome(attempt: Attempt, outcome: Outcome) -> Outcome:
     """Return the outcome to report for an attempt.
 
     The last failure of an optional step, or of a collected item, becomes a result: for the engine
-    the step is committed. It stays a failure if the saga is aborted, or if a plan that the saga
-    waits for might then be more expensive: an optional step can always be undone, an item may not.
+    the step is void, and costs nothing. It stays a failure if the saga is aborted.
     """
     instance = attempt.instance
     if outcome.kind not in (FAILED, PERMANENT) or attempt.undo or instance.aborted:
         return outcome
     kind, step = instance.kind, attempt.step
-    is_optional = step in kind.optional
-    if not is_optional and (step not in kind.collected or instance.draining):
+    if step not in kind.optional and step not in kind.collected:
         return outcome
     is_last = outcome.kind is PERMANENT or attempt.attempt >= kind.tries["run"][step]
     if not is_last or not outcome.called:
