@@ -17,7 +17,8 @@ The table also has the processor time of the server for a request, with all its 
 
 With `--processes N` over PostgreSQL, each turn measures `sagas serve --processes N` and a service
 of one process in turn. The last two columns are the rate, and the processor time for a request, as
-multiples of those of one process.
+multiples of those of one process. Before it is measured, each service gets requests of the kinds
+that are measured, because a new process compiles and imports for some time.
 
 `TMPDIR=/dev/shm` puts SQLite's files into memory. Then a commit does not wait for a disk, and the
 route is at its fastest.
@@ -217,6 +218,8 @@ async def page(address: str) -> float:
     return statistics.median(times)
 
 
+WARM = 2.0
+"""Seconds after which a new process does only what it is asked for."""
 OF_SEVERAL = ", several"
 """What the names of the figures of several processes end with."""
 
@@ -297,6 +300,19 @@ def pids_of(service: Served) -> list[int]:
     return [int(it) for it in pathlib.Path(f"/proc/{pid}/task/{pid}/children").read_text().split()]
 
 
+async def warmed(
+    addresses: str,
+    count: int,
+    together: int,
+    begin: Callable[[str, int], Coroutine[Any, Any, Done]],
+) -> None:
+    """Use each route before it is measured: a new process has work of its own for a second."""
+    await begin("w", count + 4 * together)
+    await chained(addresses, count // 2, together, 1)
+    await tasks(addresses, count // 2, together, 1)
+    await asyncio.sleep(WARM)
+
+
 def services_turn(
     folder: pathlib.Path,
     count: int,
@@ -344,6 +360,7 @@ def services_turn(
                 },
             )
 
+        asyncio.run(warmed(addresses, count // 4, together, begin))
         figures["POST /v1/sagas"] = measured(pids, begin("k", count))
         manners: dict[
             str, tuple[Callable[[str, int, int, int], Coroutine[Any, Any, Done]], int]

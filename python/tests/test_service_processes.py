@@ -189,6 +189,34 @@ def test_claims_end_in_each_process(service: Served, tokens: dict[str, str]) -> 
     assert ended == len(claims) and answers == [[]] * len(claims)
 
 
+def test_a_waiting_claim_gets_the_tasks_of_each_process(
+    service: Served, tokens: dict[str, str]
+) -> None:
+    """Claims wait at all processes, and each task goes to one of them, wherever it was started."""
+    count = 12
+    answers = list[Any]()
+
+    def claim() -> None:
+        with service.client(tokens["worker"]) as client:
+            for task in take(client, "licence/server", wait=30):
+                status = client.post(
+                    f"/v1/tasks/{task['attempt_id']}/complete", json={"lease": task["lease"]}
+                ).status_code
+                answers.append((task["key"], status))
+
+    claims = [threading.Thread(target=claim) for _ in range(count)]
+    for thread in claims:
+        thread.start()
+    began = time.monotonic()
+    for number in range(count):
+        with service.client(tokens["caller"]) as client:  # another connection each time
+            assert start(client, "licence", f"waited-{number}").status_code == 201
+    for thread in claims:
+        thread.join(LONG)
+    expected = [(f"waited-{number}", 200) for number in range(count)]
+    assert sorted(answers) == sorted(expected) and time.monotonic() - began < LONG
+
+
 def test_a_killed_process_starts_again(
     postgresql: Server, prepared: str, tmp_path: pathlib.Path
 ) -> None:

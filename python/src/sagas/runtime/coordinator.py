@@ -223,6 +223,14 @@ class Coordinator:
         """Read reports of external attempts."""
         self.external.look()
 
+    def suffice(self, tasks: Sequence[str]) -> bool:
+        """Return whether a claim waits here for each of these tasks, which are offered now."""
+        return self.external.waits.suffice(tasks)
+
+    def reported_in(self, shards: Sequence[int]) -> None:
+        """Read reports of external attempts, if this node drives one of the shards."""
+        self.external.look_in(shards)
+
     def offered(self) -> None:
         """Wake waiting claims, because another node offers tasks."""
         self.external.offered_elsewhere()

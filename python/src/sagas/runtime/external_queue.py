@@ -49,6 +49,7 @@ from sagas.definition.call_options import Manner
 from sagas.runtime import leased_tasks, remote_steps
 from sagas.runtime.leased_tasks import Heartbeat, LeasedTask, Queue, Word
 from sagas.runtime.stored_values import until_answered
+from sagas.runtime.task_waits import TaskWaits
 from sagas.storage import queries
 from sagas.storage.external import Claim, Report, Row
 
@@ -84,11 +85,6 @@ REASONS = {
 """Why no worker could get an attempt, by the outcome of its row; None without a row."""
 
 
-def _set(future: asyncio.Future[None]) -> None:
-    if not future.done():
-        future.set_result(None)
-
-
 def awaits_worker(attempt: Attempt) -> bool:
     """Return whether an attempt waits for a worker, or for the one that has it."""
     return attempt.state is SUSPENDED and attempt.reason is Suspension.EXTERNAL
@@ -122,13 +118,14 @@ class ExternalQueue:
         self._table = coordinator.store.external
         self._signer = Signer(secrets.token_bytes(32))
         self.has_any: bool = False
-        self._is_looking = self._looks_again = False
+        self._is_looking = False
+        self._unread: set[int] = set()  # shards whose reports are to be read
         self._reports: dict[str, asyncio.Future[Outcome]] = {}
         self.leased = False
         self.takeovers = 0
         self.on_claim: Callable[[str, float], object] = lambda saga, seconds: None
         self._limited: set[str] = set()
-        self._waiting: dict[str, dict[asyncio.Future[None], None]] = {}
+        self.waits: TaskWaits = TaskWaits(coordinator.loop)
         self._offering: set[Attempt] = set()
         self._withdrawing: set[Attempt] = set()
         self._check = OfferCheck(self.coordinator, self._is_moving, self._offer)
@@ -158,9 +155,7 @@ class ExternalQueue:
         """Wake all waiting claims, so that they end."""
         if self._timer:
             self._timer.cancel()
-        for waiting in list(self._waiting.values()):
-            for future in list(waiting):
-                _set(future)
+        self.waits.wake_all()
 
     def _raise_if_closed(self) -> None:
         if self.coordinator.closed:
@@ -189,11 +184,15 @@ class ExternalQueue:
         self._offering.discard(attempt)
         self._check.offered(attempt)
         if committed := self._dispatched.get(attempt):
-            _set(committed)
+            if not committed.done():
+                committed.set_result(None)
             return
         if attempt.instance.draining:
             self.coordinator.executor.drain(attempt.instance)
-        self.wake(offered_task_name(attempt))
+        if not attempt.is_remote:
+            task = offered_task_name(attempt)
+            self._table.offered(task, attempt.token())
+            self.waits.wake(task)
 
     def withdraw(self, attempt: Attempt) -> None:
         """Withdraw an attempt of a saga that is being undone, unless a worker has it.
@@ -219,6 +218,8 @@ class ExternalQueue:
         self._offering.discard(attempt)
         self._withdrawing.discard(attempt)
         self._check.gone(attempt)
+        if not attempt.is_remote and attempt.instance.shard is not None:
+            self._table.gone(offered_task_name(attempt), attempt.token())
 
     def _is_moving(self, attempt: Attempt) -> bool:
         """Return whether an offer or a withdrawal of the attempt is being stored."""
@@ -280,19 +281,9 @@ class ExternalQueue:
 
     # -- claims
 
-    def wake(self, task: str, count: int = 1) -> None:
-        """Wake up to `count` claims that wait for tasks of a step."""
-        for future in self._waiting.get(task, ()):
-            if count <= 0:
-                break
-            if not future.done():
-                _set(future)
-                count -= 1
-
     def offered_elsewhere(self) -> None:
         """Wake waiting claims, because another node has offered a task."""
-        for task in self._waiting:
-            self.wake(task)
+        self.waits.wake_each()
 
     async def claim(
         self,
@@ -311,7 +302,7 @@ class ExternalQueue:
             self._raise_if_closed()
             claims = await self._claimed(tasks, limit, seconds, worker)
             for task in tasks if claims else ():  # there may be more than were taken
-                self.wake(task)
+                self.waits.wake(task)
             leased = await self._all_leased(claims, worker, holder)
             left = deadline - self.coordinator.loop.time()
             if leased or left <= 0:
@@ -319,7 +310,8 @@ class ExternalQueue:
             if claims:  # no claimed task could be leased
                 await asyncio.sleep(min(left, 1.0))
             else:
-                await self._wait_for_tasks(tasks, left)
+                self._table.follow()
+                await self.waits.wait(tasks, left)
 
     async def _claimed(
         self, tasks: Sequence[str], limit: int, seconds: float, worker: str
@@ -385,22 +377,6 @@ class ExternalQueue:
         with contextlib.suppress(StoreUnavailable):  # then the lease expires
             await self._table.heartbeat(attempt, lease, 0.0)
             self.offered_elsewhere()
-
-    async def _wait_for_tasks(self, tasks: Sequence[str], seconds: float) -> None:
-        """Wait until there may be tasks of these steps."""
-        future: asyncio.Future[None] = self.coordinator.loop.create_future()
-        timer = self.coordinator.loop.call_later(seconds, _set, future)
-        for task in tasks:
-            self._waiting.setdefault(task, {})[future] = None
-        try:
-            await future
-        finally:
-            timer.cancel()
-            for task in tasks:
-                waiting = self._waiting.get(task, {})
-                waiting.pop(future, None)
-                if not waiting:
-                    self._waiting.pop(task, None)
 
     async def _leased(self, claim: Claim, worker: str, holder: str) -> LeasedTask | None:
         """Return the task of a claim; None if its values cannot be computed here."""
@@ -540,7 +516,7 @@ class ExternalQueue:
                 stored()
             await self._apply(Report(token, str(outcome.kind), value))
         else:
-            await self._table.notify_owners()
+            self._table.notify_owner(shard)
         return True
 
     def _encoded(self, outcome: Outcome) -> str:
@@ -566,7 +542,7 @@ class ExternalQueue:
             if shard in self.coordinator.shards.runners:
                 await self._apply(Report(token, str(outcome.kind), outcome.value))
             elif shard is not None:
-                await self._table.notify_owners()
+                self._table.notify_owner(shard)
 
     async def _apply(self, report: Report) -> None:
         """Report an outcome into its shard if possible now, and wait until it is stored."""
@@ -598,17 +574,23 @@ class ExternalQueue:
         return True
 
     def look(self) -> None:
-        """Read reports, because there may be some."""
-        self._looks_again = True
-        if not self._is_looking and not self.coordinator.closed and self.has_any:
+        """Read the reports on all attempts of this program, because there may be some."""
+        self.look_in([*self.coordinator.shards.runners])
+
+    def look_in(self, shards: Iterable[int]) -> None:
+        """Read the reports on attempts of those shards that this program has."""
+        if self.coordinator.closed or not self.has_any:
+            return
+        self._unread.update(self.coordinator.shards.runners.keys() & shards)
+        if not self._is_looking and self._unread:
             self._is_looking = True
             self.coordinator.spawn(self._look())
 
     async def _look(self) -> None:
         try:
-            while self._looks_again and not self.coordinator.closed:
-                self._looks_again = False
-                for report in await self._table.reported([*self.coordinator.shards.runners]):
+            while self._unread and not self.coordinator.closed:
+                shards, self._unread = self._unread, set()
+                for report in await self._table.reported([*shards]):
                     if attempt := self.find(report.attempt):
                         self._deliver(report, attempt)
         except StoreUnavailable:
@@ -675,7 +657,9 @@ class ExternalQueue:
         self.look()
         if self.has_any:
             self._check.look()
-        if self._waiting and not self.coordinator.closed and loop.time() >= self._next_wake:
+        if self.waits:
+            self._table.follow()
+        if self.waits and not self.coordinator.closed and loop.time() >= self._next_wake:
             self._next_wake = loop.time() + LOOK
             self.coordinator.spawn(self._wake_all())
 
@@ -683,7 +667,7 @@ class ExternalQueue:
         """Wake claims for tasks whose leases expired, or whose notification was lost."""
         with contextlib.suppress(StoreUnavailable):
             for task, ready, _, _ in await self._table.waiting():
-                self.wake(task, ready)
+                self.waits.wake(task, ready)
 
 
 def _raise_lost(row: Row, token: str, number: int, subject: str, outcome: Outcome) -> None:

@@ -5,7 +5,7 @@ from __future__ import annotations
 import dataclasses
 from typing import Any
 
-from sagas.base.errors import Fail
+from sagas.base.errors import Fail, NoSuchTask
 from sagas.core import outcomes
 from sagas.core.outcomes import Outcome
 from sagas.definition import serialization
@@ -14,16 +14,9 @@ from sagas.definition.layout import ShapeValues
 from sagas.definition.registry import DefinitionRegistry
 from sagas.definition.task import Task
 from sagas.definition.task_data import TaskSnapshot
-from sagas.storage import queries
-from sagas.storage.external import Claim
+from sagas.storage.external import Claim, SagaTexts
 from sagas.storage.interface import Database
 
-OF_SAGA = (
-    "SELECT s.key, s.input, s.deadline, s.traceparent, text, "
-    "(SELECT p.shape FROM shapes p WHERE p.id = s.id) "
-    f"FROM {queries.DEFINED} WHERE s.id = ?"
-)
-RESULTS = "SELECT step, value FROM attempts WHERE id = ? AND action = 'run' AND event = 'commit'"
 Word = tuple[str, str, str]
 """The name of a saga, the name of a step, and `run` or `undo`."""
 
@@ -119,14 +112,16 @@ async def stored_task(
     store: Database, registry: DefinitionRegistry, claim: Claim
 ) -> tuple[CompiledDefinition, Task[Any]]:
     """Return definition and task of an attempt that another node executes."""
-    read, undo = store.read, claim.action == "undo"
-    rows = await read(OF_SAGA, claim.id)
-    ((key, text, deadline, traceparent, definition, shape),) = rows
-    kind: CompiledDefinition = registry.kind(definition)
-    decode, text = kind.payloads.decode, kind.payloads.decode(text)
-    results: dict[int, str] = {
-        step: decode(value or "null") for step, value in await read(RESULTS, claim.id)
-    }
+    undo, texts = claim.action == "undo", await store.external.texts(claim.id)
+    if texts is None:
+        raise NoSuchTask(f"the saga of the attempt {claim.attempt!r} was deleted")
+    if store.blobs is not None:
+        (fields,) = await store.blobs.rows([texts[:-1]])
+        texts = SagaTexts._make((*fields, await store.blobs.rows(texts.results)))
+    key, deadline, traceparent, shape = texts.key, texts.deadline, texts.traceparent, texts.shape
+    kind: CompiledDefinition = registry.kind(texts.definition)
+    decode, text = kind.payloads.decode, kind.payloads.decode(texts.input)
+    results: dict[int, str] = {step: decode(value or "null") for step, value in texts.results}
     token, _, number = claim.attempt.rpartition("-")
     name = kind.names[claim.step]
     values = ShapeValues() if shape is None else ShapeValues.read(decode(shape))

@@ -58,6 +58,8 @@ class Hub:
         self.closed = False
         self._kept: deque[tuple[int, Event]] = deque(maxlen=KEPT)
         self._listeners: dict[Listener, None] = {}
+        self.opened: Callable[[], object] = lambda: None
+        """Called when a stream is opened."""
 
     @property
     def listeners(self) -> int:
@@ -129,6 +131,7 @@ class Hub:
         An event `missed` says that some were lost: the client should read the sagas themselves.
         """
         self._listeners[listener] = None
+        self.opened()
         last_sent = time.monotonic()
         try:
             events, missed = self.events_after(last)

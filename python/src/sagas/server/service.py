@@ -72,6 +72,7 @@ SHOWN_OPTIONS = ("concurrency", "retention", "archive_dir", "lease", "record", "
 """The options of the store that the log has at the start."""
 FREQUENT = ("/v1/tasks/claim", "/heartbeat")
 """The ends of paths whose requests change no saga."""
+EVENT_FIELDS = [field.name for field in dataclasses.fields(Event)]
 MAX_DETAIL = 500
 """Maximum characters of an event's detail that other services receive."""
 
@@ -242,6 +243,7 @@ class Service:
         peers = self.store.workers.peers()
         if peers:
             peers.on_message, peers.missed = self._heard, self.hub.missed
+            peers.follows, self.hub.opened = lambda: self.hub.listeners > 0, peers.follow
             peers.answers |= {"workers": self._workers, "begun": self._begun}
             await peers.open()
             self._peers = peers
@@ -621,7 +623,8 @@ def level_of(method: str, path: str, status: int) -> int:
 
 def event_fields(event: Event) -> dict[str, Any]:
     """Return an event as it is sent to other services."""
-    fields = {name: value for name, value in dataclasses.asdict(event).items() if value is not None}
+    fields = {name: getattr(event, name) for name in EVENT_FIELDS}
+    fields = {name: value for name, value in fields.items() if value is not None}
     if event.detail is not None:
         fields["detail"] = event.detail[:MAX_DETAIL]
     return fields

@@ -19,6 +19,7 @@ from typing import Generic, NamedTuple, Protocol, TypeVar, Union
 from sagas.base.errors import SagasError, StoreUnavailable
 from sagas.core.shard.batch import Batch
 from sagas.core.spans import LEASED_WORD
+from sagas.storage import queries
 from sagas.storage.webhook_deliveries import Deliveries
 
 OFFER = "attempt, shard, id, step, action, number, task, concurrency, lease, offered_at, cancelled"
@@ -58,6 +59,12 @@ A success replaces a failure that no commit has handled yet, and also `unknown`.
 """
 
 
+TEXTS = (
+    "SELECT s.id, s.key, s.input, s.deadline, s.traceparent, text, "
+    "(SELECT p.shape FROM shapes p WHERE p.id = s.id) "
+    f"FROM {queries.DEFINED} WHERE s.id = ?"
+)
+RESULTS = "SELECT step, value FROM attempts WHERE id = ? AND action = 'run' AND event = 'commit'"
 UNCLAIMED = f"lease IS NULL AND ({OPEN} OR outcome = 'withdrawn')"
 """Whether an attempt may be withdrawn.
 
@@ -143,6 +150,22 @@ class Report(NamedTuple):
     value: str
 
 
+class SagaTexts(NamedTuple):
+    """What the task of an attempt is made of: the texts of its saga, as they are stored.
+
+    `results` has the index of each step that has one, and its result.
+    """
+
+    id: int
+    key: str
+    input: str
+    deadline: float | None
+    traceparent: str | None
+    definition: str
+    shape: str | None
+    results: list[tuple[int, str | None]]
+
+
 class QueueState(NamedTuple):
     """The queue of one task.
 
@@ -211,8 +234,20 @@ class ExternalAttempts(Protocol):
     async def waiting(self) -> list[QueueState]:
         """Return what waits for workers, or is leased, by task."""
 
-    async def notify_owners(self) -> None:
-        """Wake the nodes that drive shards with new reports."""
+    async def texts(self, id: int) -> SagaTexts | None:
+        """Return the texts of a saga; None if it was deleted."""
+
+    def offered(self, task: str, attempt: str) -> None:
+        """Note that this node has offered an attempt. Its claims look for such attempts first."""
+
+    def gone(self, task: str, attempt: str) -> None:
+        """Note that an attempt of this node does not wait for a worker."""
+
+    def follow(self) -> None:
+        """Have the other nodes report offers without delay, because a claim waits here."""
+
+    def notify_owner(self, shard: int) -> None:
+        """Wake the node that drives a shard with a new report."""
 
 
 # -- one statement for all requests that arrive while the one before is executed

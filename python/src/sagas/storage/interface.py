@@ -103,6 +103,8 @@ class Peers(Protocol):
     """Called with each message that another node broadcast."""
     missed: Callable[..., object]
     """Called if this node may have missed a message."""
+    follows: Callable[[], bool]
+    """Returns whether this node needs the messages of the others at once."""
     others: set[str]
     """The other nodes that answer, as far as this node knows."""
 
@@ -123,6 +125,9 @@ class Peers(Protocol):
 
     async def call_all(self, command: str) -> list[Any]:
         """Return the answers of all other nodes that answer."""
+
+    def follow(self) -> None:
+        """Have the other nodes send their messages without much delay, because one needs them."""
 
     def broadcast(self, message: Any) -> bool:
         """Send a message to all other nodes soon. Return False if it is too long."""
@@ -158,6 +163,12 @@ class Watcher(Protocol):
 
     def reported(self) -> None:
         """A report of an external attempt arrived."""
+
+    def suffice(self, tasks: Sequence[str]) -> bool:
+        """Return whether a claim of this node waits for each of these tasks, offered now."""
+
+    def reported_in(self, shards: Sequence[int]) -> None:
+        """Reports arrived of attempts of these shards. Other nodes may have some of the shards."""
 
     def offered(self) -> None:
         """Another node offers something to workers."""

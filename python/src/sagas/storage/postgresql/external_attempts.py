@@ -16,7 +16,8 @@ from typing import Any, Optional, Union
 from sagas.base.errors import StoreUnavailable
 from sagas.core.shard.batch import Batch
 from sagas.definition.serialization import clean
-from sagas.storage import external
+from sagas.storage import external, queries
+from sagas.storage.ready_attempts import ReadyAttempts
 from sagas.storage.webhook_deliveries import Deliveries
 from sagas.storage.external import (
     Batcher,
@@ -30,6 +31,7 @@ from sagas.storage.external import (
     Report,
     ReportRequest,
     Row,
+    SagaTexts,
     earlier,
 )
 from sagas.storage.postgresql import conflicts, connections, notifications, wire
@@ -40,6 +42,8 @@ from sagas.storage.postgresql.server import SERVER
 CHANNEL = "sagas_reports"
 MAX_BATCH = 200
 """Maximum number of claims and reports in one statement."""
+MAX_TEXTS = 16
+"""Maximum number of sagas whose texts one statement reads, because they may be long."""
 CLOCK = "clock AS MATERIALIZED (SELECT extract(epoch FROM clock_timestamp())::float8 AS now)"
 HELD = (
     f"SELECT count(*) FROM external_attempts t WHERE t.task = {{}} AND t.{OPEN} AND t.until > "
@@ -51,25 +55,49 @@ BOUND = (
 )
 
 
+AHEAD, SHARE = 1.0, 4
+"""By how much a claim prefers the attempts of its own node: seconds, and a part of their wait.
+
+The attempts of other nodes cost more: the claim reads their values from the database, and their
+report goes through it. So no attempt is leased while another one of the same task has waited for a
+second longer and for a quarter longer.
+"""
+TURN = f"e.offered_at - greatest({AHEAD}, (clock.now - e.offered_at) / {SHARE})"
+"""The time from which an attempt of the own node counts as offered."""
+CELLS = """e.attempt, e.offered_at, e.lease IS NOT NULL AND NOT e.given_back AS is_takeover,
+  e.since, e.worker, e.lease, e.until"""
+
+
 def _claimed(expired: str) -> str:
     """Return the statement parts of many claims of the same tasks.
 
     There is a worker and its seconds for each attempt that may be claimed. `expired` is the
-    condition for attempts that had a lease.
+    condition for attempts that had a lease. `own` has the attempts that this node has offered. If
+    they suffice, the statement only looks whether another one has waited for longer (`TURN`).
     """
+    free = f"e.{OPEN} AND (e.until IS NULL OR {expired})"
+    others = f"e.task = w.task AND {free} AND e.attempt <> ALL(%(own)s::text[])"
     return f"""
+own AS MATERIALIZED (
+  SELECT {CELLS}, {TURN} AS turn FROM unnest(%(own)s::text[]) AS w(attempt)
+  JOIN external_attempts e USING (attempt), clock
+  WHERE e.task = ANY(%(tasks)s::text[]) AND {free} AND {BOUND.replace("w.task", "e.task")} IS NULL
+  FOR UPDATE OF e SKIP LOCKED),
+own_turn AS (
+  SELECT %(limit)s::bigint - count(*) AS missing, max(turn) AS first FROM own),
 candidates AS MATERIALIZED (
-  SELECT x.* FROM unnest(%(tasks)s::text[]) AS w(task), clock,
+  SELECT * FROM own
+  UNION ALL SELECT x.*, x.offered_at FROM unnest(%(tasks)s::text[]) AS w(task), clock, own_turn,
   LATERAL (SELECT {BOUND} AS bound) b, LATERAL (
-    SELECT e.attempt, e.offered_at, e.lease IS NOT NULL AND NOT e.given_back AS is_takeover,
-      e.since, e.worker, e.lease, e.until
-    FROM external_attempts e
-    WHERE e.task = w.task AND e.{OPEN} AND (e.until IS NULL OR {expired})
-    ORDER BY e.offered_at
-    LIMIT CASE WHEN b.bound IS NULL THEN %(limit)s::bigint
-      ELSE greatest(0, least(%(limit)s::bigint, b.bound - ({HELD.format("w.task")}))) END
+    SELECT least(own_turn.missing + count(*), %(limit)s::bigint) AS limit FROM (
+      SELECT FROM external_attempts e
+      WHERE {others} AND e.offered_at < own_turn.first LIMIT %(limit)s::bigint) o) older,
+  LATERAL (
+    SELECT {CELLS} FROM external_attempts e WHERE {others} ORDER BY e.offered_at
+    LIMIT CASE WHEN b.bound IS NULL THEN older.limit
+      ELSE greatest(0, least(older.limit, b.bound - ({HELD.format("w.task")}))) END
     FOR UPDATE SKIP LOCKED) x
-  ORDER BY x.offered_at LIMIT %(limit)s::bigint),
+  ORDER BY turn LIMIT %(limit)s::bigint),
 taken AS (
   UPDATE external_attempts e SET worker = s.worker, since = clock.now,
     until = clock.now + s.seconds, given_back = false,
@@ -95,7 +123,9 @@ json_agg(json_build_array(attempt, lease, seconds, id, step, action, cancelled, 
   place, number, since, worker, had, until) ORDER BY place)::text
 """
 """All rows as one text, which is read faster than several cells of each."""
-CLAIM = f"WITH {CLOCK}, {CLAIMED} SELECT {ROWS} FROM taken"
+FREE = "(SELECT json_agg(attempt)::text FROM own)"
+"""The attempts of this node that could be claimed."""
+CLAIM = f"WITH {CLOCK}, {CLAIMED} SELECT {ROWS}, {FREE} FROM taken"
 EARLIER = """
 INSERT INTO attempt_spans VALUES(%(id)s, %(step)s, %(action)s, %(number)s, %(at)s, %(spans)s)
 ON CONFLICT DO NOTHING RETURNING 1
@@ -138,29 +168,32 @@ An attempt whose row another transaction has locked is skipped. A statement that
 rows could deadlock.
 """
 SHARDS = "json_object_agg(attempt, shard)::text"
-CLAIM_PARAMETERS = ("tasks", "limit", "workers", "seconds")
+CLAIM_PARAMETERS = ("tasks", "limit", "workers", "seconds", "own")
 REPORT_PARAMETERS = ("attempts", "leases", "outcomes", "values")
 CLAIMS_WIRED = wire.numbered(
-    f"WITH {CLOCK}, {CLAIMED} SELECT {ROWS}, NULL FROM taken", *CLAIM_PARAMETERS
+    f"WITH {CLOCK}, {CLAIMED} SELECT {ROWS}, {FREE}, NULL FROM taken", *CLAIM_PARAMETERS
 )
 REPORTS_WIRED = wire.numbered(
-    f"WITH {REPORTED} SELECT NULL, {SHARDS} FROM kept", *REPORT_PARAMETERS
+    f"WITH {REPORTED} SELECT NULL, NULL, {SHARDS} FROM kept", *REPORT_PARAMETERS
 )
 BOTH_WIRED = wire.numbered(
     f"WITH {CLOCK}, {UNREPORTED}, {REPORTED} "
-    f"SELECT (SELECT {ROWS} FROM taken), (SELECT {SHARDS} FROM kept)",
+    f"SELECT (SELECT {ROWS} FROM taken), {FREE}, (SELECT {SHARDS} FROM kept)",
     *CLAIM_PARAMETERS,
     *REPORT_PARAMETERS,
 )
-"""Returns the rows of claims, and the shards of the reports that count."""
+"""Returns the rows of claims, which attempts of this node were free, and the shards of the reports
+that count.
+"""
 FIND = "SELECT lease, outcome, value, reported FROM external_attempts WHERE attempt = %(attempt)s"
 OUTCOMES = (
     "SELECT attempt, outcome FROM external_attempts WHERE attempt = ANY(%(attempts)s::text[])"
 )
 ALL_REPORTED = (
-    "SELECT attempt, outcome, value FROM external_attempts WHERE shard = "
-    f"ANY(%(shards)s::bigint[]) AND {external.REPORTED}"
+    "SELECT json_agg(json_build_array(attempt, outcome, value))::text FROM external_attempts "
+    f"WHERE shard = ANY(%(shards)s::bigint[]) AND {external.REPORTED}"
 )
+REPORTED_WIRED = wire.numbered(ALL_REPORTED, "shards")
 WAITING = f"""
 WITH {CLOCK}
 SELECT task, count(*) FILTER (WHERE until IS NULL OR until <= now),
@@ -175,6 +208,16 @@ ON CONFLICT (id, step, action, number) DO UPDATE SET fraction = excluded.fractio
 RETURNING 1
 """
 NOTIFY_REPORTED = notifications.notify_statement(CHANNEL).replace("%(messages)s", "'{reported}'")
+
+
+ALL_TEXTS = f"""
+SELECT json_agg(json_build_array(s.id, s.key, s.input, s.deadline, s.traceparent, text,
+  (SELECT p.shape FROM shapes p WHERE p.id = s.id),
+  (SELECT coalesce(json_agg(json_build_array(a.step, a.value)), '[]') FROM attempts a
+   WHERE a.id = s.id AND a.action = 'run' AND a.event = 'commit')))::text
+FROM {queries.DEFINED} WHERE s.id = ANY(%(ids)s::bigint[])
+"""
+TEXTS_WIRED = wire.numbered(ALL_TEXTS, "ids")
 
 
 _Answer = Union[list[list[Any]], Optional[int]]
@@ -235,7 +278,15 @@ class PostgreSQLExternalAttempts:
         self._batcher: Batcher[ExternalRequest, Any] = Batcher(
             self._ask_all, MAX_BATCH, self._dropped, _group
         )
+        self._texts: Batcher[int, SagaTexts | None] = Batcher(
+            self._ask_texts, MAX_TEXTS, lambda id, texts: None
+        )
         self._unwanted: Callable[[Sequence[Claim]], object] = lambda claims: None
+        self._ready = ReadyAttempts()
+        self.notify: Callable[[list[str]], object] = lambda messages: None
+        """Sends messages to the other nodes, soon."""
+        self.follows: Callable[[str], object] = lambda event: None
+        """Has the other nodes send messages of an event without delay."""
         self.deliveries: Deliveries = PostgreSQLDeliveries(asker)
 
     def begin(
@@ -303,30 +354,53 @@ class PostgreSQLExternalAttempts:
         self, claims: Sequence[ClaimRequest], reports: Sequence[ReportRequest]
     ) -> tuple[list[list[Any]], dict[str, int]]:
         parameters: list[bytes] = []
+        own_attempts: list[str] = []
         if claims:
             each = [claim for claim in claims for _ in range(claim.limit)]
+            own_attempts = self._ready.first(claims[0].tasks, len(each))
             seconds = wire.array([repr(claim.seconds) for claim in each])
             workers = wire.array([claim.worker for claim in each])
             parameters += [wire.array(claims[0].tasks), b"%d" % len(each), workers, seconds]
+            parameters.append(wire.array(own_attempts))
         if reports:
             attempts, leases, outcomes, values = zip(*reports)
             parameters += map(wire.array, (attempts, map(str, leases), outcomes, values))
         text = CLAIMS_WIRED if not reports else BOTH_WIRED if claims else REPORTS_WIRED
-        ((rows, shards),) = await self._own_wire.ask(text, *parameters)
-        return rows_of(rows), json.loads(shards) if shards else {}
+        ((rows_text, free, shards),) = await self._own_wire.ask(text, *parameters)
+        rows = rows_of(rows_text)
+        if claims:
+            self._note_taken(claims[0].tasks, own_attempts, free, rows)
+        return rows, json.loads(shards) if shards else {}
+
+    def _note_taken(
+        self,
+        tasks: Sequence[str],
+        own_attempts: Sequence[str],
+        free: str | bytes | None,
+        rows: Sequence[list[Any]],
+    ) -> None:
+        """Forget the attempts of this node that were not free, or were claimed now."""
+        left = set(json.loads(free) if free else ()) - {row[0] for row in rows}
+        self._ready.discard(tasks, [attempt for attempt in own_attempts if attempt not in left])
 
     async def _claim_all(self, claims: Sequence[ClaimRequest]) -> list[list[Any]]:
         """Return the rows of claims of the same tasks, by the pool."""
         if not claims:
             return []
         each = [claim for claim in claims for _ in range(claim.limit)]
-        workers = {
+        tasks = [*claims[0].tasks]
+        own_attempts = self._ready.first(tasks, len(each))
+        parameters = {
+            "tasks": tasks,
+            "limit": len(each),
             "workers": [claim.worker for claim in each],
             "seconds": [claim.seconds for claim in each],
+            "own": own_attempts,
         }
-        tasks = [*claims[0].tasks]
-        ((text,),) = await self._asker.ask(CLAIM, tasks=tasks, limit=len(each), **workers)
-        return rows_of(text)
+        ((text, free),) = await self._asker.ask(CLAIM, **parameters)
+        rows = rows_of(text)
+        self._note_taken(tasks, own_attempts, free, rows)
+        return rows
 
     async def _has_own(self) -> bool:
         """Connect, if the server has a spare connection."""
@@ -360,7 +434,12 @@ class PostgreSQLExternalAttempts:
         No other node claims them at the same time.
         """
         workers = [wanted.worker] * wanted.limit
-        parameters = {"tasks": [*wanted.tasks], "limit": wanted.limit, "workers": workers}
+        parameters = {
+            "tasks": [*wanted.tasks],
+            "limit": wanted.limit,
+            "workers": workers,
+            "own": [],
+        }
         asker = self._asker
         try:
             async with self._locking, asker.connection() as connection, connection.transaction():
@@ -397,14 +476,37 @@ class PostgreSQLExternalAttempts:
         return {attempt: outcome for attempt, outcome in rows}
 
     async def reported(self, shards: Sequence[int]) -> list[Report]:
-        rows = await self._asker.read(ALL_REPORTED, shards=list(shards))
-        return [Report(*row) for row in rows]
+        if self._own_wire.is_open:
+            ((text,),) = await self._own_wire.read(REPORTED_WIRED, wire.array(map(str, shards)))
+        else:
+            ((text,),) = await self._asker.read(ALL_REPORTED, shards=list(shards))
+        return [Report(*row) for row in rows_of(text)]
 
     async def waiting(self) -> list[QueueState]:
         return [QueueState(*row) for row in await self._asker.read(WAITING)]
 
-    async def notify_owners(self) -> None:
-        await self._asker.ask(NOTIFY_REPORTED)
+    async def texts(self, id: int) -> SagaTexts | None:
+        return await self._texts.ask(id)
+
+    async def _ask_texts(self, ids: Sequence[int]) -> list[SagaTexts | None]:
+        if self._own_wire.is_open:
+            ((text,),) = await self._own_wire.read(TEXTS_WIRED, wire.array(map(str, ids)))
+        else:
+            ((text,),) = await self._asker.read(ALL_TEXTS, ids=list(ids))
+        texts = {row[0]: SagaTexts(*row) for row in rows_of(text)}
+        return [texts.get(id) for id in ids]
+
+    def offered(self, task: str, attempt: str) -> None:
+        self._ready.add(task, attempt)
+
+    def gone(self, task: str, attempt: str) -> None:
+        self._ready.discard((task,), (attempt,))
+
+    def follow(self) -> None:
+        self.follows(notifications.TASKS)
+
+    def notify_owner(self, shard: int) -> None:
+        self.notify(notifications.payloads(notifications.REPORTED, [shard]))
 
 
 # -- deliveries of webhooks

@@ -26,6 +26,16 @@ if TYPE_CHECKING:
 CHANNEL = "sagas_nodes"
 STARTS = "starts"
 """The message that there are starts of clients."""
+TASKS = "tasks"
+"""The message that tasks are offered."""
+ENDED = "ended"
+"""The message that sagas have ended, with their ids."""
+FOLLOW = "follow_"
+"""What a message begins with that asks for other messages without delay, before their name."""
+FOLLOWED = 10.0
+"""Seconds for which such a message holds. It is repeated as long as a caller waits."""
+REPORTED = "reported"
+"""The message that there are reports, with their shards or for all nodes."""
 AT_ONCE = "set_config('synchronous_commit', 'off', true)"
 """A setting for transactions with a notification, so that they wait for no disk and no standby.
 
@@ -117,14 +127,24 @@ class Notifications:
     """Listens on a connection of its own.
 
     `look` is called for each message without an id, and whenever messages may have been missed.
-    Without a URL it does not listen. Then callers that wait look each second.
+    `reported` is called with the shards that have reports. Without a URL it does not listen. Then
+    callers that wait look each second.
     """
 
     def __init__(
-        self, url: str | None, look: Callable[[str], None], channels: Sequence[str] = (CHANNEL,)
+        self,
+        url: str | None,
+        look: Callable[[str], None],
+        channels: Sequence[str] = (CHANNEL,),
+        reported: Callable[[list[int]], object] = lambda shards: None,
     ) -> None:
         self._look, self._longest_wait = look, POLL if url is None else MAX_LOOK
+        self._reported = reported
         self.listener = Listener(url or "", channels, self._heard, self._missed)
+        self.followed: Callable[[str], object] = lambda event: None
+        """Called if another program waits for messages of an event."""
+        self._followed_until: dict[str, float] = {}
+        self._following: asyncio.TimerHandle | None = None
         self._waiting: dict[tuple[str, int], list[asyncio.Future[None]]] = {}
         self._recent: OrderedDict[tuple[str, int], None] = OrderedDict()
         listening = self.listener.run() if url is not None else _nothing()
@@ -138,6 +158,8 @@ class Notifications:
             with contextlib.suppress(TimeoutError):
                 async with asyncio.timeout(connections.CONNECT):
                     await sent.wait()
+        if self._following:
+            self._following.cancel()
         await cancel_all([self._job])
         for futures in self._waiting.values():
             _wake(futures)
@@ -155,20 +177,51 @@ class Notifications:
 
     def _missed(self) -> None:
         self._recent.clear()  # another server may not have these commits
+        self._followed_until.clear()
         for futures in self._waiting.values():
             _wake(futures)
         self._look("")
 
     def _heard(self, payload: str) -> None:
         event, *ids = payload.split()
+        if event.startswith(FOLLOW):
+            self._note_followed(event.removeprefix(FOLLOW))
+            return
         if not ids:
             self._look(event)
+        if event == REPORTED:
+            self._reported([int(id) for id in ids])
+            return
         for id in ids:
             event_and_id = event, int(id)
             self._recent[event_and_id] = None
             _wake(self._waiting.get(event_and_id, []))
         while len(self._recent) > RECENT:
             self._recent.popitem(last=False)
+
+    def is_followed(self, event: str) -> bool:
+        """Return whether a program waits for messages of an event, as far as this one knows."""
+        return asyncio.get_running_loop().time() < self._followed_until.get(event, 0.0)
+
+    def _note_followed(self, event: str) -> None:
+        self._followed_until[event] = asyncio.get_running_loop().time() + FOLLOWED
+        self.followed(event)
+
+    def follow(self, event: str) -> None:
+        """Ask all nodes to send messages of an event without delay, unless they do so."""
+        now = asyncio.get_running_loop().time()
+        if now >= self._followed_until.get(event, 0.0) - FOLLOWED / 2:
+            self._followed_until[event] = now + FOLLOWED
+            self.say([FOLLOW + event], lambda: None)
+
+    def _follow_ends(self) -> None:
+        """Follow the ends of sagas as long as a caller waits."""
+        if self._waiting:
+            self.follow(ENDED)
+            loop = asyncio.get_running_loop()
+            self._following = loop.call_later(FOLLOWED / 2, self._follow_ends)
+        else:
+            self._following = None
 
     async def of(self, id: int, turn: int) -> None:
         """Wait for a saga's end.
@@ -184,6 +237,8 @@ class Notifications:
             return
         future = asyncio.get_running_loop().create_future()
         self._waiting.setdefault(event_and_id, []).append(future)
+        if self._following is None:
+            self._follow_ends()
         try:
             pause = min(self._longest_wait, FIRST_LOOK * 2.0 ** min(turn, 16))
             await asyncio.wait([future], timeout=pause)
@@ -210,6 +265,8 @@ SOON = 0.001
 
 The work on this node comes first.
 """
+UNFOLLOWED = 0.25
+"""The same for messages for which no program waits, as far as this node knows."""
 
 
 class Announcer:
@@ -219,11 +276,15 @@ class Announcer:
     send none.
     """
 
-    def __init__(self, listening: Notifications) -> None:
-        self.notifications = listening
+    def __init__(self, listening: Notifications, suffice: Callable[[Sequence[str]], bool]) -> None:
+        """`suffice`: returns whether this node has a waiting claim for each offered task."""
+        self.notifications, self._suffice = listening, suffice
+        listening.followed = self._flush
         self._queued: list[str] = []
         self._timer: asyncio.TimerHandle | None = None
         self._is_sending = self._is_closed = False
+        self._deferred: dict[str, list[int]] = {}  # the ids of events that no program waits for
+        self._deferring: asyncio.TimerHandle | None = None
 
     def stop(self) -> None:
         """Send nothing more before `close`."""
@@ -231,8 +292,32 @@ class Announcer:
 
     async def close(self) -> None:
         """Send what is left, and close the connection."""
-        messages, self._queued = self._queued, []
+        if self._deferring:
+            self._deferring.cancel()
+        messages, self._queued = [*self._queued, *self._take_deferred()], []
         await self.notifications.close(messages)
+
+    def _defer(self, event: str, ids: list[int]) -> None:
+        """Report an event soon if a program waits for it, otherwise together with later ones."""
+        self._deferred.setdefault(event, []).extend(ids)
+        if self.notifications.is_followed(event):
+            self._flush(event)
+        elif self._deferring is None and not self._is_closed:
+            loop = asyncio.get_running_loop()
+            self._deferring = loop.call_later(UNFOLLOWED, self._send_deferred)
+
+    def _flush(self, event: str) -> None:
+        """Report an event, because a program waits for it."""
+        if (ids := self._deferred.pop(event, None)) is not None:
+            self.say(payloads(event, ids) or [event])
+
+    def _take_deferred(self) -> list[str]:
+        deferred, self._deferred = self._deferred, {}
+        return [text for event, ids in deferred.items() for text in payloads(event, ids) or [event]]
+
+    def _send_deferred(self) -> None:
+        self._deferring = None
+        self.say(self._take_deferred())
 
     def hurry(self) -> None:
         """Send now what was to be sent soon: the server is at work anyway."""
@@ -243,14 +328,16 @@ class Announcer:
     def kept(self, commit: Commit) -> None:
         """Notify other processes of a commit that the store has."""
         if ended := commit.ended:
-            self.say(payloads("ended", ended))
+            self._defer(ENDED, ended)
         if commit.rare:
             self._kept_rare(commit)
 
     def _kept_rare(self, commit: Commit) -> None:
         has = {part for _, rare in commit.rare for part in vars(rare)}
-        if "offers" in has and any(row[6] for _, rare in commit.rare for row in rare.offers):
-            self.say(["tasks"])
+        if "offers" in has:
+            tasks = [row[6] for _, rare in commit.rare for row in rare.offers if row[6]]
+            if tasks and not self._suffice(tasks):
+                self._defer(TASKS, [])
         if "notes" in has or commit.has_moved:  # parents wait for notes
             self.say(["requests"])
         if "begun" in has:

@@ -13,14 +13,14 @@ import asyncio
 import contextlib
 import json
 import secrets
-from collections.abc import Awaitable, Callable, Coroutine
+from collections.abc import Awaitable, Callable, Coroutine, Sequence
 from typing import Any
 
 from sagas.base.cancellation import cancel_all
 from sagas.base.errors import OwnerUnavailable, SagasError, StoreUnavailable
 from sagas.base.logger import logger
 from sagas.storage.operator_requests import checked_answer
-from sagas.storage.postgresql import connections
+from sagas.storage.postgresql import connections, wire
 from sagas.storage.postgresql.notifications import AT_ONCE, Listener, notify_statement
 from sagas.storage.postgresql.server import SERVER
 
@@ -29,6 +29,12 @@ LOOK = 1.0
 """Seconds between two looks."""
 GATHERED = 0.02
 """Seconds during which messages are gathered."""
+MAX_GATHERED = 0.1
+"""Minimum number of seconds between two notifications with messages."""
+UNFOLLOWED = 1.0
+"""The same while no other node follows the messages."""
+FOLLOWED = 3.0
+"""Seconds for which another node follows the messages after it has said so, which it repeats."""
 HELLO = 2.0
 """Seconds that a node that opens waits for the answers of the others."""
 ASKING = 1.0
@@ -40,7 +46,7 @@ OLD = 60.0
 MAX_UNSENT = 10_000
 """Maximum number of messages that are kept while they cannot be sent."""
 
-NOTIFY = notify_statement(CHANNEL)
+NOTIFY_WIRED = notify_statement(CHANNEL).replace("%(messages)s", "$1")
 CALL_MESSAGE = "json_build_array('call', %(node)s::text)::text"
 ANSWER_MESSAGE = "json_build_array('answer', id)::text"
 CALL = f"""
@@ -61,13 +67,17 @@ GIVEN_UP = "DELETE FROM peer_calls WHERE id = %(id)s RETURNING answer"
 MEET = """
 WITH announced AS (
   UPDATE nodes SET serves = %(serves)s WHERE node = %(node)s AND serves <> %(serves)s)
-SELECT node FROM nodes WHERE node <> %(node)s AND lease > now() AND serves
+SELECT node, EXISTS (SELECT 1 FROM peer_calls WHERE node = %(node)s AND answer IS NULL)
+FROM nodes WHERE node <> %(node)s AND lease > now() AND serves
 """
 FORGET = f"DELETE FROM peer_calls WHERE at < now() - interval '{OLD} s'"
 OWNER = (
     "SELECT n.node FROM shards l JOIN nodes n ON n.node = l.owner WHERE l.name = %(name)s AND "
     "l.closed = 0 AND n.lease > now() AND n.serves"
 )
+
+
+dumps = json.JSONEncoder(separators=(",", ":"), check_circular=False).encode
 
 
 class PostgreSQLPeers:
@@ -85,8 +95,12 @@ class PostgreSQLPeers:
         self._waiting: dict[str, asyncio.Event] = {}
         self._doing: dict[str, asyncio.Task[None]] = {}
         self._jobs: set[asyncio.Task[None]] = set()
-        self._fetching = self._fetch_again = self._is_sending = self._closing = False
+        self._fetching = self._fetch_again = self._closing = False
+        self.follows: Callable[[], bool] = lambda: False
+        """Returns whether this node needs the messages of the others at once."""
         self._unsent: list[str] = []
+        self._sent_at = self._followed_until = 0.0
+        self._sending: asyncio.TimerHandle | None = None
         self._listener = Listener(url, (CHANNEL,), self._heard, self._listens)
         self._has_listened = False
 
@@ -143,11 +157,13 @@ class PostgreSQLPeers:
     async def _meet(self) -> None:
         """Announce that this node answers, and look for other nodes and calls."""
         rows = await self._asker.ask(MEET, node=self.node, serves=True)
-        self.others = {node for (node,) in rows}
-        if rows:
+        self.others = {node for node, _ in rows}
+        if any(is_called for _, is_called in rows):
             self._fetch()
         if self._unsent:
             self._send_soon()
+        if self.follows():
+            self.follow()
 
     async def owner(self, shard: str) -> str | None:
         """Return the node that owns the shard with this name, if that node answers."""
@@ -248,25 +264,69 @@ class PostgreSQLPeers:
 
         If a node cannot be reached, it learns that it has missed a message.
         """
-        text = json.dumps(["told", self.node, message])
-        if len(text) > MAX_MESSAGE:
+        text = dumps(message)
+        if len(self._joined([text])) > MAX_MESSAGE:
             return False
         self._unsent.append(text)
         self._send_soon()
         return True
 
-    def _send_soon(self) -> None:
-        if self.others and not self._is_sending and not self._closing:
-            self._is_sending = True
-            asyncio.get_running_loop().call_later(GATHERED, lambda: self._spawn(self._send()))
+    def _joined(self, texts: Sequence[str]) -> str:
+        """Return one notification of several messages."""
+        return f'["messages",{dumps(self.node)},[{",".join(texts)}]]'
 
-    async def _send(self) -> None:
-        messages, self._unsent, self._is_sending = self._unsent, [], False
-        try:
-            if messages and not self._closing:
-                await self._asker.ask(NOTIFY, messages=messages)
-        except StoreUnavailable:
-            self._unsent = (messages + self._unsent)[-MAX_UNSENT:]
+    def _notifications(self, texts: Sequence[str]) -> list[str]:
+        """Return notifications of messages, each as long as PostgreSQL accepts it."""
+        parts: list[list[str]] = []
+        length = room = MAX_MESSAGE - len(self._joined([]))
+        for text in texts:
+            if length + len(text) + 1 > room:
+                parts.append([])
+                length = -1
+            parts[-1].append(text)
+            length += len(text) + 1
+        return [self._joined(part) for part in parts]
+
+    def follow(self) -> None:
+        """Have the other nodes send their messages without much delay, for a few seconds."""
+        if self.others:
+            self._notify([dumps(["follow", self.node])], lambda is_sent: None)
+
+    def _send_soon(self) -> None:
+        if self.others and self._sending is None and not self._closing:
+            now = loop_time()
+            pause = MAX_GATHERED if now < self._followed_until else UNFOLLOWED
+            pause = max(GATHERED, self._sent_at + pause - now)
+            self._sending = asyncio.get_running_loop().call_later(pause, self._send)
+
+    def _send(self) -> None:
+        messages, self._unsent, self._sending = self._unsent, [], None
+        self._sent_at = loop_time()
+
+        def then(is_sent: bool) -> None:
+            if not is_sent:
+                self._unsent = (messages + self._unsent)[-MAX_UNSENT:]
+
+        if messages and not self._closing:
+            self._notify(self._notifications(messages), then)
+
+    def _notify(self, notifications: Sequence[str], then: Callable[[bool], object]) -> None:
+        """Send notifications over the connection that listens. `then` gets whether that worked."""
+        connection = self._listener.wire
+        if connection is None or connection.closed:
+            then(False)
+        else:
+            parameters = [wire.array(notifications)]
+            connection.ask(NOTIFY_WIRED, parameters, lambda rows, failure: then(failure is None))
+
+    def _followed(self) -> None:
+        """Note that another node needs the messages, and send those that wait."""
+        was_followed = loop_time() < self._followed_until
+        self._followed_until = loop_time() + FOLLOWED
+        if self._sending is not None and not was_followed:
+            self._sending.cancel()
+            self._sending = None
+            self._send_soon()
 
     def _listens(self) -> None:
         if self._has_listened:
@@ -281,8 +341,11 @@ class PostgreSQLPeers:
                 self._waiting[addressee].set()
             elif kind == "call" and addressee == self.node:
                 self._fetch()
-            elif kind == "told" and addressee != self.node:
-                self.on_message(payload[0])
+            elif kind == "follow" and addressee != self.node:
+                self._followed()
+            elif kind == "messages" and addressee != self.node:
+                for message in payload[0]:
+                    self.on_message(message)
         except Exception:  # for example of another release: nothing depends on it
             logger.exception("a message between nodes was not understood: %.200s", text)
 

@@ -147,7 +147,9 @@ class PostgreSQL(queries.Questions):
         self.asker = connections.Asker(url, connections.named(url), 2, Purpose.LEASE)
         self.lease = Lease(self.asker, node, lease, version, kinds, encodes)
         self._sagas = list(sagas)
-        self.external: ExternalAttempts = PostgreSQLExternalAttempts(shared_url, self.asker)
+        external = PostgreSQLExternalAttempts(shared_url, self.asker)
+        external.notify, external.follows = self._say, self._follow
+        self.external: ExternalAttempts = external
         record_file = RecordFile.of(record, self.lease.node)
         self._loader = ShardLoader(self.asker, self.lease.node, self._spawn, record_file)
         self._timeline = ""
@@ -266,7 +268,10 @@ class PostgreSQL(queries.Questions):
         self._watcher = watcher
         watcher.drained(self.lease.is_drained)
         channels = notifications.CHANNEL, external_attempts.CHANNEL
-        self._announcer = Announcer(notifications.Notifications(self.url, self._heard, channels))
+        listening = notifications.Notifications(
+            self.url, self._heard, channels, watcher.reported_in
+        )
+        self._announcer = Announcer(listening, watcher.suffice)
         self._turn.set()
 
     async def close(self) -> None:
@@ -493,6 +498,11 @@ class PostgreSQL(queries.Questions):
         """Notify the other nodes, after what the store has by now."""
         if self._announcer:
             self._announcer.say(parameters)
+
+    def _follow(self, event: str) -> None:
+        """Have the other nodes send messages of an event without delay."""
+        if self._announcer:
+            self._announcer.notifications.follow(event)
 
     def _kept(self, commit: Commit) -> None:
         """Note how long commits take, and notify the other nodes of one that the store has."""

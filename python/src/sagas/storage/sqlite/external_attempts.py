@@ -13,6 +13,7 @@ from typing import Any
 
 from sagas.core.shard.batch import Batch
 from sagas.definition.serialization import clean
+from sagas.storage import external
 from sagas.storage.webhook_deliveries import Deliveries
 from sagas.storage.external import (
     Batcher,
@@ -27,6 +28,7 @@ from sagas.storage.external import (
     Report,
     ReportRequest,
     Row,
+    SagaTexts,
     earlier,
 )
 from sagas.storage.sqlite.writer import SPANS
@@ -243,7 +245,21 @@ class SqliteExternalAttempts:
     async def waiting(self) -> list[QueueState]:
         return [QueueState(*row) for row in self._rows(WAITING, self.clock())]
 
-    async def notify_owners(self) -> None:
+    async def texts(self, id: int) -> SagaTexts | None:
+        results = [(step, value) for step, value in self._rows(external.RESULTS, id)]
+        rows = self._rows(external.TEXTS, id)
+        return SagaTexts._make((*rows[0], results)) if rows else None
+
+    def offered(self, task: str, attempt: str) -> None:
+        """Do nothing: there are no other nodes."""
+
+    def gone(self, task: str, attempt: str) -> None:
+        """Do nothing: there are no other nodes."""
+
+    def follow(self) -> None:
+        """Do nothing: there are no other nodes."""
+
+    def notify_owner(self, shard: int) -> None:
         """Do nothing: there are no other nodes."""
 
 
