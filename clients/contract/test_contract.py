@@ -147,7 +147,11 @@ def make(service: Served, operator: str, language: str, command: Made) -> Iterat
 
 
 def driven(
-    stack: contextlib.ExitStack, service: Served, operator: str, language: str, command: Made
+    stack: contextlib.ExitStack,
+    service: Served,
+    operator: str | None,
+    language: str,
+    command: Made,
 ) -> Driver:
     driver = Driver(command(language))
     stack.callback(driver.kill)
@@ -447,6 +451,40 @@ def test_decisions(driver: Driver) -> None:
         "InvalidRequest",
         "InvalidArgument",
     )
+
+
+@pytest.fixture(scope="module")
+def several(tmp_path_factory: pytest.TempPathFactory) -> Iterator[Served]:
+    """Run a service over two databases, without tokens."""
+    with contextlib.ExitStack() as stack:
+        server = stack.enter_context(serving())
+        store = ",".join(server.create() for _ in range(2))
+        service = Served(tmp_path_factory.mktemp("several"), DEFINITIONS, store=store)
+        service.start()
+        stack.callback(service.kill)
+        yield service
+
+
+@pytest.mark.xdist_group("postgresql")
+def test_several_databases(several: Served, language: str, command: Made) -> None:
+    """A client and a worker need no change: lists have pages of both, and tasks are of both."""
+    keys = [fresh(f"several-{language}") for _ in range(6)]
+    with contextlib.ExitStack() as stack:
+        driver = driven(stack, several, None, language, command)
+        ask = driver.ask
+        work(driver, several.url, None, f"several-{language}")
+        for key in keys:
+            ask("start", definition="asked", key=key, input=None)
+            ask("complete", key=key, step="sign", result=1)
+            ask("wait", key=key, timeout=LONG)
+        listed = ask("list", page=2, search=f"several-{language}")["keys"]
+        assert listed == keys[::-1]
+        entries = ask("decisions", page=1, definition="asked")["decisions"]
+        decided = [entry["sagas"][0]["key"] for entry in entries]
+        assert [key for key in decided if key in keys] == keys[::-1]
+        for _ in range(4):
+            played(driver, script("ok"))
+        driver.end()
 
 
 def test_versions(driver: Driver) -> None:

@@ -2,8 +2,10 @@ package sagas
 
 import (
 	"context"
+	"encoding/json"
 	"net/url"
 	"strconv"
+	"strings"
 	"time"
 )
 
@@ -93,12 +95,13 @@ func (l *DecisionList) Next() bool {
 		}
 		var found struct {
 			Decisions []Decision
-			Next      *int64
+			Next      json.RawMessage // a number, or a text of a store over several databases
 		}
 		l.err = l.conn.call(l.ctx, "GET", "/v1/decisions?"+l.query.Encode(), nil, &found)
-		l.page, l.last = found.Decisions, found.Next == nil
+		next := strings.Trim(string(found.Next), `"`)
+		l.page, l.last = found.Decisions, next == "" || next == "null"
 		if !l.last {
-			l.query.Set("after", strconv.FormatInt(*found.Next, 10))
+			l.query.Set("after", next)
 		}
 	}
 	return false

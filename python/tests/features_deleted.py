@@ -12,6 +12,7 @@ from typing import Any
 
 from driving import program
 from features_store import FAMILIES, Instance
+from records import urls_of
 
 Json = dict[str, Any]
 RETENTION = 1.5
@@ -60,7 +61,8 @@ class DeletionCheck:
                 self._fault("lost", f"{token} was deleted, and is in no export")
                 continue
             self._times(entries[token], ended, at)
-        self._audit(location)
+        for url in urls_of(location):
+            self._audit(url)
 
     def _archived(self) -> Iterator[tuple[tuple[str, int], tuple[float, float]]]:
         """Yield the deletions that archives of whole shards list."""

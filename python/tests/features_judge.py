@@ -607,9 +607,10 @@ class FeatureJudge(stores.Judge):
                         calls.discard(note["call"])
 
     def _limits_of(self, begun: Json) -> Iterator[tuple[tuple[Any, ...], int]]:
-        yield (begun["pid"], begun["limited"]), MAX_MOVES
+        count = len(self.settings.urls)  # each database has the limit
+        yield (begun["pid"], begun["limited"]), count * MAX_MOVES
         if self.settings.is_served and self.is_exact:
-            yield ("fleet", begun["limited"]), MAX_MOVES + 1
+            yield ("fleet", begun["limited"]), count * (MAX_MOVES + 1)
 
     def _contexts(self) -> None:
         there = dict[str, int]()
@@ -655,8 +656,8 @@ class FeatureJudge(stores.Judge):
             drains = len([*self.of("drained")])
             self.verdict.figures["drains"] += drains
             query = "SELECT count(*) FROM operator_commands WHERE command = 'drain'"
-            ((stored,),) = self.stored.rows(query)
-            if stored < drains:
+            stored = sum(count for (count,) in self.stored.rows(query))
+            if stored < drains * min(2, len(self.settings.urls)):  # the third may have joined later
                 self.verdict.fault("lost", f"{drains - stored} drains")
 
     def _scheduled(self) -> None:

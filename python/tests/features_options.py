@@ -40,18 +40,19 @@ OPTIONS = (
     "celery",
 )
 SERVED = ("celery", "drain")
-"""Drawn over PostgreSQL only."""
+"""Drawn over PostgreSQL only, with one database or several."""
 APART = {frozenset(("celery", "codec")), frozenset(("celery", "blobs"))}
 """Combinations that a store refuses."""
 EACH, BLOCK = 8, 20
 """Features of a round, and rounds of a block."""
-STORES = ("sqlite", "postgresql")
+STORES = ("sqlite", "postgresql", "databases")
+"""`databases`: several of PostgreSQL."""
 Pair = frozenset[str]
 
 
 def options_over(store: str) -> list[str]:
     """Return the features that a round over this database may have."""
-    return [option for option in OPTIONS if store == "postgresql" or option not in SERVED]
+    return [option for option in OPTIONS if store != "sqlite" or option not in SERVED]
 
 
 def pairs_of(options: Iterable[str]) -> set[Pair]:

@@ -24,6 +24,7 @@ import time
 from collections.abc import Callable
 from typing import Any
 
+from records import urls_of
 from witness import Witness
 from world import QUICK, Refused, World, chance, failure, unknown_error
 
@@ -78,6 +79,11 @@ class Settings:
     def is_served(self) -> bool:
         """Return whether the round is over PostgreSQL."""
         return self.store.startswith("postgresql:")
+
+    @property
+    def urls(self) -> list[str]:
+        """The databases of the store."""
+        return urls_of(self.store)
 
 
 @dataclasses.dataclass

@@ -45,7 +45,9 @@ PIVOT_HEAD = re.compile(r"^# pivot (\S+)$", re.M)
 
 
 def rows_of(url: str, query: str) -> list[tuple[Any, ...]]:
-    """Return the rows of a query; execute a change."""
+    """Return the rows of a query, of all databases of a store; execute a change."""
+    if len(urls := records.urls_of(url)) > 1:
+        return [row for each in urls for row in rows_of(each, query)]
     if url.startswith("postgresql:"):
         with psycopg.connect(url, options="-csearch_path=sagas", autocommit=True) as link:
             cursor = link.execute(query)  # type: ignore[arg-type]
@@ -151,13 +153,10 @@ class Values:
                 self.blobs[str(path.relative_to(folder))] = path.read_bytes()
         if "blobs" in settings.options and settings.is_served and settings.seed % 2:
             there = "SELECT 1 FROM pg_tables WHERE tablename = 'sagas_blobs'"
-            if rows_of(settings.direct, there):
-                self.blobs = {
-                    key: bytes(data)
-                    for key, data in rows_of(
-                        settings.direct, "SELECT key, data FROM public.sagas_blobs"
-                    )
-                }
+            url = settings.urls[0]
+            if rows_of(url, there):
+                rows = rows_of(url, "SELECT key, data FROM public.sagas_blobs")
+                self.blobs = {key: bytes(data) for key, data in rows}
 
     def read(self, value: Any) -> Any:
         """Return a value in its form before the store encoded it."""

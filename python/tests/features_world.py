@@ -96,14 +96,14 @@ class Node:
             options["codec"] = Scramble()
         if has("blobs"):
             is_table = settings.is_served and settings.seed % 2
-            blobs = sagas.PostgresBlobStore(settings.direct) if is_table else None
+            blobs = sagas.PostgresBlobStore(settings.urls[0]) if is_table else None
             options["blobs"] = blobs or sagas.FolderBlobStore(folder / "blobs")
             options["blob_threshold"] = THRESHOLD
         if has("retention"):
             options |= {"retention": RETENTION, "archive_dir": folder / "archive"}
         hooks: list[Webhooks] = []
         store = sagas.open(
-            settings.store,
+            settings.urls if len(settings.urls) > 1 else settings.store,
             self.shop.sagas,
             concurrency=8,
             settings=sagas.Settings(engine_processes=4),
@@ -112,11 +112,11 @@ class Node:
             **options,
         )
         store.leased = True
-        self.hooks = None
         if has("webhooks"):
             hook = Webhook("shop", settings.hook, b"k" * 32, frozenset(TYPES), None)
-            self.hooks = Webhooks([hook], store.deliveries, allow_local=True)
-            hooks.append(self.hooks)
+            stores = store.stores if isinstance(store, sagas.StoreSet) else [store]
+            hooks += [Webhooks([hook], each.deliveries, allow_local=True) for each in stores]
+        self.hooks = hooks
         return store
 
     @contextlib.asynccontextmanager
@@ -139,8 +139,8 @@ class Node:
                 await asyncio.sleep(0.05)
         stopped = asyncio.Event()
         asyncio.get_running_loop().add_signal_handler(signal.SIGTERM, stopped.set)
-        if self.hooks:
-            self.hooks.begin()
+        for hook in self.hooks:
+            hook.begin()
         self.note(what="open", node=self.name)
         print("open", flush=True)
         works = [self._callers(), self._operator()]
@@ -160,8 +160,8 @@ class Node:
         print("closing", flush=True)
         for task in tasks:
             task.cancel()
-        if self.hooks:
-            await self.hooks.end()
+        for hook in self.hooks:
+            await hook.end()
         await self.store.close()
         asyncio.get_running_loop().remove_signal_handler(signal.SIGTERM)
 

@@ -1,17 +1,19 @@
 """Random faults over the features together: rounds of eight features each, with a deploy in each.
 
-    python3 tests/kills_features.py [--rounds N] [--store sqlite|postgresql] [--sagas N]
+    python3 tests/kills_features.py [--rounds N] [--store sqlite|postgresql|databases] [--sagas N]
         [--strikes N] [--seed S] [--options a,b,c] [--deploy added|renamed|typed] [--wrong NAME|all]
 
 Forty rounds have each pair of features together. A round is one store, over SQLite with one node
-and over PostgreSQL with three. Callers start sagas, abort some, and report steps early; operators
-resolve what needs attention. Concurrently nodes
+and over PostgreSQL with three. `databases` is three databases, each of its own server. In half of
+the rounds the third one joins with the deploy. Callers start sagas, abort some, and report steps
+early; operators resolve what needs attention. Concurrently nodes
 
 - are killed with SIGKILL, and started again;
 - are asked to end, and started again;
 - are stopped, also past their leases, and continued;
 - lose their engine processes;
-- over PostgreSQL, lose their database, which is stopped as if its machine had failed.
+- over PostgreSQL, lose their database, or one of several, which is stopped as if its machine had
+  failed.
 
 Halfway, each node is started with the next release of its program. At the end the verifier judges
 the store. `--wrong` passes the nodes a fault that the verifier must find; `all` tries each such
@@ -49,16 +51,20 @@ from brokers import Broker, Program, broker_at
 from celery_kills import worker_command
 from driving import program
 from features_judge import FeatureVerdict, judge, rows_of
-from features_options import SERVED, options_of
+from features_options import SERVED, STORES, options_of
 from features_shop import DEPLOYS, Settings
 from kills import children
 from server import Server, serving
 from witness import Witness, witness_at
 
+from sagas.cli import store_command
+
 HERE = pathlib.Path(__file__).resolve().parent
 LEASE = 1.5
 PATIENCE = 20.0
 """Seconds without faults after which the operator reports what nothing else reports."""
+APART = 1_000_000
+"""The distance between the numbers of shards of two databases."""
 KINDS = ("kill", "kill", "term", "stop", "engine")
 SERVED_KINDS = (*KINDS, "kill", "database")
 Json = dict[str, Any]
@@ -178,7 +184,7 @@ class Round:
         seed: int,
         count: int,
         strikes: int,
-        server: Server | None,
+        servers: Sequence[Server],
         broker: Broker | None = None,
         options: Sequence[str] | None = None,
         deploy: str | None = None,
@@ -188,13 +194,17 @@ class Round:
         seconds: float = 0.0,
     ) -> None:
         self.folder, self.draw = folder, random.Random(seed)
-        self.server, self.broker = server, broker
+        self.servers, self.broker = servers, broker
         self.strikes, self.time_limit, self.seconds = strikes, time_limit, seconds
         self.kills = Counter[str]()
-        store = "postgresql" if server else "sqlite"
-        self.url = server.create() if server else str(folder / "store.db")
+        store = STORES[min(len(servers), 2)]
         chosen = list(options_of(store, seed) if options is None else options)
         deploy = self.draw.choice(DEPLOYS) if deploy is None else deploy
+        self.added: str | None = None
+        if len(servers) > 1:
+            self.url = self._made(chosen, deploy)
+        else:
+            self.url = servers[0].create() if servers else str(folder / "store.db")
         self.settings = Settings(
             chosen,
             self.url,
@@ -207,12 +217,12 @@ class Round:
             LEASE,
             wrong=wrong,
         )
-        names = ("one", "two", "three")[:nodes] if server else ("one",)
+        names = ("one", "two", "three")[:nodes] if servers else ("one",)
         self.nodes = [Node(name, folder / "settings.json") for name in names]
         self.worker: Program | None = None
-        self.is_exact = not server or self.draw.random() < 0.5
-        kinds = SERVED_KINDS if server else KINDS
-        is_limited = server is not None and "concurrency_by" in chosen
+        self.is_exact = not servers or self.draw.random() < 0.5
+        kinds = SERVED_KINDS if servers else KINDS
+        is_limited = bool(servers) and "concurrency_by" in chosen
         self.kinds = [
             kind
             for kind in kinds
@@ -220,6 +230,20 @@ class Round:
         ]
         self.began, self.is_paused = time.monotonic(), False
         self.faults: list[str] = []
+
+    def _made(self, options: Sequence[str], deploy: str) -> str:
+        """Make several databases, whose shards have different numbers, and return their URLs.
+
+        The last one may join with the deploy. Celery's workers are not started again then.
+        """
+        urls = [server.create() for server in self.servers]
+        if deploy and "celery" not in options and self.draw.random() < 0.5:
+            self.added = urls.pop()
+        for names in [",".join(urls), *([self.added] if self.added else [])]:
+            assert store_command.main([names, "init"]) == 0
+        for number, url in enumerate([*urls, *([self.added] if self.added else [])]):
+            rows_of(url, f"ALTER SEQUENCE shard_numbers RESTART WITH {number * APART}")
+        return ",".join(urls)
 
     def play(self) -> FeatureVerdict:
         """Run until all is over; then judge it."""
@@ -246,14 +270,17 @@ class Round:
                         node.program.kill()
         verdict = judge(self.settings, notes, self.kills, self.is_exact)
         verdict.faults[:0] = self.faults
-        if self.server and "retention" not in self.settings.options and not self.settings.wrong:
-            records = [self.folder / f"record-{node.name}" for node in self.nodes]
-            verdict.faults += fleet.judged(self.url, records)[1]
+        if self.servers and "retention" not in self.settings.options and not self.settings.wrong:
+            urls = self.settings.urls
+            for number, url in enumerate(urls, 1):
+                end = f".{number}" if len(urls) > 1 else ""
+                records = [self.folder / f"record-{node.name}{end}" for node in self.nodes]
+                verdict.faults += fleet.judged(url, records)[1]
         for node in self.nodes:
             text = (self.folder / f"log-{node.name}").read_text(errors="replace")
             if "Traceback" in text and not self.settings.wrong:
                 verdict.faults.append("traceback: " + text[text.index("Traceback") :][:3000])
-            if "commit_failed" in text and not self.server:
+            if "commit_failed" in text and not self.servers:
                 verdict.faults.append("log: " + text[text.index("commit_failed") :][:300])
         return verdict
 
@@ -334,6 +361,12 @@ class Round:
 
     def _deploy(self) -> None:
         """Start each node with the next release, one after the other."""
+        if self.added is not None:
+            while store_command.main([self.url, "map", "add", self.added]) != 0:
+                self._keep_up()
+            self.url = f"{self.url},{self.added}"
+            self.settings = dataclasses.replace(self.settings, store=self.url, direct=self.url)
+            self.settings.write(self.folder / "settings.json")
         for node in self.nodes if self.settings.deploy else []:
             self._wait(self.draw.uniform(0.1, 0.6))
             if self.draw.random() < 0.5 and node.is_open:
@@ -358,7 +391,7 @@ class Round:
             self.is_paused = True
             self._wait(0.5)
         attention = "SELECT key FROM sagas WHERE note IS NULL AND (phase = 'stuck' OR undo_failed)"
-        if self.server:
+        if self.servers:
             attention = attention.replace("undo_failed", "(recovered AND undo_failed)")
         return not self._left() and not rows_of(self.url, attention)
 
@@ -405,11 +438,10 @@ class Round:
                 break
 
     def _database(self, node: Node) -> None:
-        assert self.server
-        since = time.time()
-        self.server.stop("immediate")
+        server, since = self.draw.choice(self.servers), time.time()
+        server.stop("immediate")
         self._wait(self.draw.uniform(0.0, 0.5))
-        self.server.start()
+        server.start()
         self.witness.note(what="stood", since=since, until=time.time())
         self.kills["the database"] += 1
 
@@ -435,29 +467,28 @@ def play(
     seed: int,
     count: int,
     strikes: int,
-    server: Server | None = None,
-    *,
+    *servers: Server,
     keeps: bool = True,
     **round_options: Any,
 ) -> Played:
     """Play one round: a store, its faults and the verdict."""
     folder = pathlib.Path(tempfile.mkdtemp(prefix="sagas-features-"))
-    game = Round(folder, seed, count, strikes, server, **round_options)
+    game = Round(folder, seed, count, strikes, servers, **round_options)
     verdict = game.play()
     is_bad = keeps and bool(verdict.faults)
     if not is_bad:
         shutil.rmtree(folder)
-        if server:
-            server.drop(game.url)
+        for server, url in zip(servers, game.settings.urls):
+            server.drop(url)
     of = game.settings
     return Played(of.options, of.deploy, verdict, game.kills, folder if is_bad else None)
 
 
-def try_wrong(name: str, server: Server | None = None) -> Played:
+def try_wrong(name: str, *servers: Server) -> Played:
     """Play a round of a wrong variant, without faults."""
     variant = features_wrong.VARIANTS[name]
     settings = {"options": variant.options, "deploy": variant.deploy, "seconds": variant.seconds}
-    return play(1, variant.count, 0, server, time_limit=60, wrong=name, keeps=False, **settings)
+    return play(1, variant.count, 0, *servers, time_limit=60, wrong=name, keeps=False, **settings)
 
 
 def main() -> int:
@@ -466,7 +497,7 @@ def main() -> int:
         description=__doc__, formatter_class=argparse.RawDescriptionHelpFormatter
     )
     parser.add_argument("--rounds", type=int, default=5)
-    parser.add_argument("--store", choices=("sqlite", "postgresql"), default="sqlite")
+    parser.add_argument("--store", choices=STORES, default="sqlite")
     parser.add_argument("--sagas", type=int, default=40)
     parser.add_argument("--strikes", type=int, default=10)
     parser.add_argument("--seed", type=int, default=random.randrange(10**6))
@@ -480,9 +511,10 @@ def main() -> int:
     bad, began = 0, time.monotonic()
     features = options.options.split(",") if options.options else None
     with contextlib.ExitStack() as stack:
-        server = broker = None
-        if options.store == "postgresql":
-            server = stack.enter_context(serving({"fsync": "on"}))
+        broker = None
+        count = {"sqlite": 0, "postgresql": 1, "databases": 3}[options.store]
+        servers = [stack.enter_context(serving({"fsync": "on"})) for _ in range(count)]
+        if servers:
             folder = pathlib.Path(stack.enter_context(tempfile.TemporaryDirectory()))
             broker = stack.enter_context(broker_at("redis", folder))
         for number in range(options.rounds):
@@ -491,7 +523,7 @@ def main() -> int:
                 seed,
                 options.sagas,
                 options.strikes,
-                server,
+                *servers,
                 broker=broker,
                 options=features,
                 deploy=options.deploy,
@@ -526,7 +558,7 @@ def wrong(name: str) -> int:
     for variant in sorted(features_wrong.VARIANTS) if name == "all" else [name]:
         finds, is_served = features_wrong.VARIANTS[variant].finds, is_served_only(variant)
         with serving({"fsync": "on"}) if is_served else contextlib.nullcontext() as server:
-            played = try_wrong(variant, server)
+            played = try_wrong(variant, *([server] if server else []))
         is_detected = finds in played.names
         missed += not is_detected
         print(

@@ -5,6 +5,7 @@ from __future__ import annotations
 import contextlib
 import json
 import pathlib
+import re
 import sqlite3
 from collections.abc import Callable, Iterator
 from dataclasses import dataclass, field
@@ -91,8 +92,26 @@ def _server(store: pathlib.Path | str) -> Iterator[Callable[[str], list[Any]]]:
         yield lambda query: link.execute(query).fetchall()
 
 
+def urls_of(store: pathlib.Path | str) -> list[str]:
+    """Return the databases of a store: `URL,URL`, or one, or a file."""
+    return re.split(",(?=postgresql:)", str(store))
+
+
 def read(store: pathlib.Path | str) -> Records:
-    """Read a store, even while a program runs on it."""
+    """Read a store, even while a program runs on it.
+
+    If it has several databases, their shards have different numbers.
+    """
+    if len(urls := urls_of(store)) > 1:
+        parts = [read(url) for url in urls]
+        merged = Records({}, {}, {}, {})
+        for part in parts:
+            assert not {*merged.logs} & {*part.logs} and not {*merged.sagas} & {*part.sagas}
+            merged.logs |= part.logs
+            merged.sagas |= part.sagas
+            merged.results |= part.results
+            merged.deleted |= part.deleted
+        return merged
     rows = contextlib.contextmanager(_server if str(store).startswith("postgresql:") else _lite)
     with rows(store) as ask:
         logs = {

@@ -68,7 +68,7 @@ class Late:
             await store.start(self.saga, "k")
             await until(lambda: attempts_to_report(store), 30)
             external = store._coordinator.external
-            await until(lambda: not (external._is_looking or external._looks_again))
+            await until(lambda: not (external._is_looking or external._unread))
             yield store
 
     @property

@@ -20,7 +20,7 @@ import sagas
 from sagas.base import events
 from sagas.core.attempt import machine as attempt_machine
 
-PLAIN = (BaseException, dict, str, tuple)
+PLAIN = (BaseException, dict, list, str, tuple)
 REFERENCE = pathlib.Path(__file__).resolve().parents[2] / "docs" / "reference"
 
 

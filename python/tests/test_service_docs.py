@@ -57,6 +57,10 @@ def folder_of(tmp_path: pathlib.Path) -> dict[str, str]:
     return variables | {"PATH": f"{tmp_path / 'bin'}:{os.environ['PATH']}"}
 
 
+OF_SEVERAL = {"sagas_database_up", "sagas_generation"}
+"""Metrics of a service over several databases: `test_service_databases.py` reads them."""
+
+
 def test_the_page(tmp_path: pathlib.Path) -> None:
     """From the start of the service to a resolved stuck saga."""
     tutorial, address = commands(), host()
@@ -163,7 +167,7 @@ def test_metrics_are_described(tmp_path: pathlib.Path) -> None:
     }
     counted = {name.removesuffix("_total") for name in metrics}
     assert names and names <= counted, names - counted
-    assert metrics == set(
+    assert metrics | OF_SEVERAL == set(
         re.findall(r"`(sagas_\w+[a-z])[{`]", (REFERENCE / "metrics.md").read_text())
     )
 

@@ -39,7 +39,8 @@ if sys.version_info < (3, 11):
 
 from sagas.api.explanation import explain
 from sagas.api.settings import Settings
-from sagas.api.store import Run, Store, open
+from sagas.api.run import Run
+from sagas.api.store import Store, open
 from sagas.api.sync_store import SyncRun, SyncStore, open_sync
 from sagas.api.async_service_client import (
     AsyncServiceClient,
@@ -104,7 +105,9 @@ from sagas.base.errors import (
 )
 from sagas.base.events import Event
 from sagas.core.attention import Attention, AttentionReason
+from sagas.core.database_map import DatabaseMap
 from sagas.core.decisions import DecidedSaga, DecisionEntry
+from sagas.core.merged_lists import MergedList
 from sagas.core.nodes import Drain, NodeState, NodeStatus
 from sagas.core.pauses import Pause
 from sagas.core.results import (
@@ -142,12 +145,16 @@ if TYPE_CHECKING:
     from sagas import inspection as inspection
     from sagas import testing as testing
     from sagas.api.client import Client, ClientRun
+    from sagas.api.client_set import ClientSet
+    from sagas.api.store_set import StoreSet
     from sagas.api.sync_client import SyncClient, SyncClientRun
 
 MODULES = ("celery", "inspection", "testing")
 LATER = {
     "Client": "api.client",
     "ClientRun": "api.client",
+    "ClientSet": "api.client_set",
+    "StoreSet": "api.store_set",
     "SyncClient": "api.sync_client",
     "SyncClientRun": "api.sync_client",
 }
@@ -198,6 +205,7 @@ __all__ = [
     "Choice",
     "Client",
     "ClientRun",
+    "ClientSet",
     "Closed",
     "Codec",
     "Collected",
@@ -205,6 +213,7 @@ __all__ = [
     "ConflictError",
     "ConflictingReport",
     "Cost",
+    "DatabaseMap",
     "DecidedSaga",
     "DecisionEntry",
     "DefinitionCount",
@@ -238,6 +247,7 @@ __all__ = [
     "KeyConflict",
     "LeasedTask",
     "LeaseLost",
+    "MergedList",
     "MissingCodec",
     "MissingResult",
     "MissingStep",
@@ -287,6 +297,7 @@ __all__ = [
     "Store",
     "StoreLocked",
     "StoreSchemaTooNew",
+    "StoreSet",
     "StoreUnavailable",
     "TransactionConflict",
     "Summary",

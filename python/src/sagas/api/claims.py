@@ -18,6 +18,8 @@ from sagas.storage import webhook_deliveries
 from sagas.storage.webhook_deliveries import Claimed, Posted
 from sagas.storage.interface import Peers
 
+HAS_SHARD = "SELECT 1 FROM shards WHERE name = ?"
+
 
 class Workers:
     """Hand the tasks of external steps to workers. Made by `Store.workers`.
@@ -192,6 +194,10 @@ class Workers:
             Closed: The store is closed.
         """
         return await self._access.coordinator.external.queues()
+
+    async def _has_shard(self, name: str) -> bool:
+        """Return whether the database has a shard with this name."""
+        return bool(await self._access.coordinator.store.read(HAS_SHARD, name))
 
     @property
     def takeovers(self) -> int:

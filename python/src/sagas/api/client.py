@@ -3,20 +3,22 @@
 from __future__ import annotations
 
 import builtins
+import inspect
 import json
 import os
 import secrets
-from collections.abc import Coroutine
+from collections.abc import Callable, Coroutine, Sequence
 from types import TracebackType
 from typing import TYPE_CHECKING, Any, TypeVar
 
-from sagas.api import client_start, store_access
+from sagas.api import client_start, database_set, store_access
 from sagas.api.commands import check_repeated_report
 from sagas.api.restarts import check_restartable
 from sagas.api.shared_calls import SharedCalls, declared_names
 from sagas.base.errors import Closed, InvalidStore, NoSuchSaga
 from sagas.base.fork_guard import OpenState
 from sagas.core import attention, history, reports
+from sagas.core.database_map import MapRow, check_alone
 from sagas.core.attempt import waits
 from sagas.core.decisions import request_fields
 from sagas.core.shard.batch import SagaRow, StoredSaga
@@ -43,6 +45,7 @@ from sagas.storage.blob_layer import Blobs
 from sagas.storage.store_name import FORM
 from sagas.storage.postgresql import (
     connections as connections_module,
+    database_maps,
     lookups,
     node_lease,
     notifications,
@@ -73,6 +76,12 @@ SELECT 1 FROM done
 """
 
 
+def _signature_of(init: Callable[..., None]) -> inspect.Signature:
+    """Return the signature of a class whose `__new__` only selects a subclass."""
+    signature = inspect.signature(init)
+    return signature.replace(parameters=[*signature.parameters.values()][1:])
+
+
 class Client(SharedCalls):
     """Start and inspect sagas of a PostgreSQL store, without executing any.
 
@@ -83,20 +92,29 @@ class Client(SharedCalls):
         path: The database, without the password.
     """
 
+    def __new__(cls, url: str | Sequence[str] = "", *_args: Any, **_options: Any) -> Client:
+        """Return a client; over several databases a `ClientSet`."""
+        if cls is Client and database_set.is_several(url):
+            from sagas.api.client_set import ClientSet
+
+            cls = ClientSet
+        return super().__new__(cls)
+
     def __init__(
         self,
-        url: str,
+        url: str | Sequence[str],
         *,
         connections: int = 4,
         codec: Codec | None = None,
         blobs: BlobStore | None = None,
         record: str | os.PathLike[str] | None = None,
-        direct_url: str | None = None,
+        direct_url: str | Sequence[str] | None = None,
     ) -> None:
         """Make a client, to be entered by `async with`.
 
         Args:
-            url: The store's database.
+            url: The store's database. If the store has several, a list of all of them, in the order
+                of its map.
             connections: Maximum number of concurrent statements (default: 4). One more connection
                 listens for notifications.
             codec: As for `sagas.open` (default: values are stored as JSON).
@@ -110,7 +128,7 @@ class Client(SharedCalls):
             InvalidStore: It is not a URL of PostgreSQL.
             ValueError: The number of connections is not valid.
         """
-        if not isinstance(url, str):
+        if not isinstance(url, str) or not (direct_url is None or isinstance(direct_url, str)):
             raise InvalidStore(
                 f"{arguments.shown(url)}: this is not a URL of a PostgreSQL database. Write {FORM}"
             )
@@ -131,6 +149,7 @@ class Client(SharedCalls):
             Blobs(blobs, MIN_THRESHOLD, self._payloads, self.path) if blobs is not None else None
         )
         self._sagas: dict[tuple[str, int], Saga[Any]] = {}
+        self._is_member = False
         self._starter = client_start.ClientStarter(
             self._asker, self.path, connections, self._payloads
         )
@@ -184,6 +203,9 @@ class Client(SharedCalls):
                     f"{self.path}: the store has no tables yet. Start a node, or run `sagas store "
                     "URL init`"
                 )
+            if not self._is_member and (await self._asker.read(database_maps.HAS_TABLE))[0][0]:
+                row = database_maps.row_of(await self._asker.read(database_maps.READ_NOW))
+                check_alone(row, self.path)
             await node_lease.agree_on_encoding(self._asker, self._payloads.codec is not None)
             if self._record:
                 self._record.open()
@@ -241,6 +263,21 @@ class Client(SharedCalls):
                 "client`"
             )
         return self._notifier
+
+    async def database_of(self, key: str) -> str:
+        """Return the URL of the database that has a key, or that a start of it goes to.
+
+        If the store has one database, it is that one.
+
+        Args:
+            key: The saga's key.
+
+        Raises:
+            StoreUnavailable: The database does not answer.
+            Closed: The client is closed.
+        """
+        self._open_notifier
+        return str(self._url)
 
     # -- sagas
 
@@ -470,12 +507,18 @@ class Client(SharedCalls):
         A node that has the definition executes the command, and this call waits for it.
         """
         arguments.key(new_key)
-        row, before = await self._row(key), await self._find(new_key)
+        before = await self._find(new_key)
+        await self._request_restart(key, new_key, by, note)
+        return ClientRun(self, new_key, None, before is None)
+
+    async def _request_restart(
+        self, key: str, new_key: str, by: str | None, note: str | None
+    ) -> None:
+        row = await self._row(key)
         if row.phase is None:
             check_restartable(key, SagaPhase.OPEN)
         value = serialization.write({**request_fields(by, note), "new_key": new_key})
         await self._request(row, "restart", value)
-        return ClientRun(self, new_key, None, before is None)
 
     async def plan(self, key: str) -> Plan | None:
         """Return a saga's last plan. See `Store.plan`."""
@@ -520,6 +563,18 @@ class Client(SharedCalls):
         rows = [SagaRow(*row) for row in await self._ask(lookups.FIND, keys=json.dumps(keys))]
         return max(rows, key=lambda row: row.id) if rows else None
 
+    async def _has_key(self, key: str) -> bool:
+        """Return whether the database has a saga, or a start, with this key."""
+        return await self._find(key) is not None
+
+    async def _read_map(self) -> MapRow | None:
+        """Return the map of a store over several databases, as this one has it."""
+        return database_maps.row_of(await self._read(database_maps.READ))
+
+    async def _client_of(self, key: str) -> Client:
+        """Return the client of the database that has a key, or that a start of it goes to."""
+        return self
+
     async def _row(self, key: str) -> SagaRow:
         row = await self._find(key)
         if row is None:
@@ -542,6 +597,9 @@ class Client(SharedCalls):
         known = await self._known(row)
         kind = self._kind(row, known.definition)
         return history.stored_result(kind, row, known.results, known.shape)
+
+
+setattr(Client, "__signature__", _signature_of(Client.__init__))
 
 
 class ClientRun:

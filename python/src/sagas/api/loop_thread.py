@@ -147,7 +147,8 @@ def blocking(
 
     @functools.wraps(method)
     def call(self: Facade[A], /, *args: P.args, **kwargs: P.kwargs) -> T:
-        return self._loop.do(method(self._inner, *args, **kwargs))
+        work: Coroutine[Any, Any, T] = getattr(self._inner, method.__name__)(*args, **kwargs)
+        return self._loop.do(work)
 
     return call
 
@@ -160,7 +161,8 @@ def blocking_plain(
     @functools.wraps(method)
     def call(self: Facade[A], /, *args: P.args, **kwargs: P.kwargs) -> T:
         async def run() -> T:
-            return method(self._inner, *args, **kwargs)
+            result: T = getattr(self._inner, method.__name__)(*args, **kwargs)
+            return result
 
         return self._loop.do(run())
 

@@ -13,6 +13,7 @@ from sagas.api.shared_calls import SharedCalls
 from sagas.api.store_access import StoreAccess
 from sagas.base import program
 from sagas.base.errors import NoSuchSaga
+from sagas.core.database_map import MapRow
 from sagas.core.shard.batch import SagaRow
 from sagas.core.attempt.waits import active_attempts
 from sagas.core.nodes import NodeStatus
@@ -70,6 +71,33 @@ class Questions(SharedCalls):
         if row is None or row.id < 0:
             raise NoSuchSaga(f"no saga has the key {key!r}")
         return row
+
+    async def _has_key(self, key: str) -> bool:
+        """Return whether the database has a saga, or a start, with this key."""
+        coordinator = self._access.coordinator_here()
+        is_live = key in coordinator.sagas.by_key
+        return is_live or await coordinator.store.find(key) is not None
+
+    async def _read_map(self) -> MapRow | None:
+        """Return the map of a store over several databases, as this one has it."""
+        from sagas.storage.postgresql import database_maps
+
+        read = self._access.coordinator_here().store.read
+        return database_maps.row_of(await read(database_maps.READ))
+
+    async def database_of(self, key: str) -> str:
+        """Return the URL of the database that has a key, or that a start of it goes to.
+
+        If the store has one database, it is that one, or the file.
+
+        Args:
+            key: The saga's key.
+
+        Raises:
+            StoreUnavailable: The database does not answer.
+            Closed: The store is closed.
+        """
+        return self._location()
 
     def active_attempts(self, key: str) -> builtins.list[ActiveAttempt]:
         """Return the attempts of a saga that have started, and what each waits for.

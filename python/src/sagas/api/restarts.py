@@ -4,6 +4,7 @@ from __future__ import annotations
 
 import asyncio
 import json
+from collections.abc import Awaitable, Callable
 
 from sagas.api.commands import Commands
 from sagas.api.store_access import SagaLookup, Starter, StoreAccess
@@ -63,6 +64,11 @@ class Restarts:
         self._access, self._lookup = access, lookup
         self._starter, self._commands = starter, commands
         self._storing = asyncio.Lock()
+        self.route: Callable[[str], Awaitable[Restarts]] = self._here
+        """Returns what starts a new key: of another database, if the store has several."""
+
+    async def _here(self, new_key: str) -> Restarts:
+        return self
 
     async def restart(
         self,
@@ -89,20 +95,25 @@ class Restarts:
         saga = coordinator.registry.sagas.get((row.saga, version))
         if saga is None:
             await self._check_elsewhere(key, row.saga, version)
-            was_there = await coordinator.store.find(new_key) is not None
+            was_there = await (await self.route(new_key)).has(new_key)
             await self._commands.hand_over(row, "restart", {"new_key": new_key}, request)
             return not was_there
         text = await stored_values.input_of(coordinator.store, row.id, row.input)
         input = serialization.read(coordinator.registry.payloads.decode(text))
         labels = queries.visible_labels(await coordinator.store.read(queries.LABELS_OF, row.id))
         await self._check_unchanged(row)  # else the labels may be gone, and the input not
-        is_new = await self._starter.start(
+        there = await self.route(new_key)
+        is_new = await there._starter.start(
             saga, new_key, input, labels, None, trace, token, (row.id, key)
         )
         if not is_new:
-            await self._check_link(row, new_key)
+            await there._check_link(row, new_key)
         await self._store_command(key, new_key, request)
         return is_new
+
+    async def has(self, key: str) -> bool:
+        """Return whether the database has a saga with this key."""
+        return await self._access.coordinator.store.find(key) is not None
 
     async def _check_unchanged(self, row: SagaRow) -> None:
         """Raise an error if a saga was erased or deleted while it was read."""

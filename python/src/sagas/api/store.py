@@ -1,4 +1,4 @@
-"""An open store, how it is opened, and its handle of a saga."""
+"""An open store, and how it is opened."""
 
 from __future__ import annotations
 
@@ -6,50 +6,41 @@ import asyncio
 import builtins
 import contextlib
 import datetime
-import functools
 import os
-import signal
-from collections.abc import Iterable, Mapping
+from collections.abc import Coroutine, Iterable, Mapping, Sequence
 from types import TracebackType
 from typing import TYPE_CHECKING, Any
 
-from sagas.api.commands import Commands
+from sagas.api.child_operations import ChildOperations
 from sagas.api.claims import Deliveries, Workers
+from sagas.api.database_set import is_several
 from sagas.api.operators import Operators
+from sagas.api.run import Run
 from sagas.api.settings import DEFAULTS, Settings
 from sagas.api.shared_calls import over_own_connection
-from sagas.api.store_access import SagaLookup, Starter, StoreAccess
+from sagas.api.store_access import StoreAccess
 from sagas.base import program as program_module
 from sagas.base.errors import Closed, InvalidStore, TemporaryError, WouldWaitForever
 from sagas.base.events import EventEmitter, Hook
 from sagas.base.logger import logger
-from sagas.core import history
+from sagas.base.stop_signals import until_stopped
 from sagas.core.decisions import request_fields
 from sagas.core.shard.batch import SagaRow
 from sagas.core.attempt.instance import SagaInstance
-from sagas.core.results import HistoryEvent
 from sagas.definition.saga_result import SagaResult
 from sagas.definition.payloads import Codec
 from sagas.definition import arguments, call_options, payloads, serialization, tracing
 from sagas.definition.payloads import BlobStore, check_blobs
-from sagas.definition.compiled import CompiledDefinition
 from sagas.definition.labels import Labels
-from sagas.definition.parts import SagaParts
 from sagas.definition.saga import Saga
 from sagas.definition.registry import DefinitionRegistry
-from sagas.definition.start_options import Deadline, I, NO_INPUT, StartOptions
+from sagas.definition.start_options import Deadline, I, NO_INPUT
 from sagas.definition.call_options import Seconds
-from sagas.definition.step import Step
-from sagas.engine.plan import Plan
-from sagas.inspection import saga as saga_questions, what_if
-from sagas.inspection.question import AsyncStoreReader
 from sagas.runtime import (
     invocation,
     operator_commands,
     retention as retention_module,
-    stored_values,
 )
-from sagas.runtime.children import ChildEnd
 from sagas.runtime.client_starts import StartReader
 from sagas.runtime.coordinator import Coordinator
 from sagas.runtime.scheduler import Scheduler
@@ -62,7 +53,7 @@ if TYPE_CHECKING:
 
 
 def open(
-    path: str | os.PathLike[str],
+    path: str | os.PathLike[str] | Sequence[str],
     sagas: Iterable[Saga[Any]],
     *,
     concurrency: int = 16,
@@ -79,7 +70,7 @@ def open(
     blobs: BlobStore | None = None,
     blob_threshold: int = 65_536,
     record: str | os.PathLike[str] | None = None,
-    direct_url: str | None = None,
+    direct_url: str | Sequence[str] | None = None,
     settings: Settings = DEFAULTS,
 ) -> Store:
     """Open a store: `async with sagas.open("trips.db", [trip]) as store`.
@@ -90,7 +81,8 @@ def open(
     Args:
         path: A SQLite file, which is created if it does not exist, for one program at a time. Or
             `postgresql://user@host/database`, for any number of programs: each is a node. When a
-            node ends, the others execute its sagas.
+            node ends, the others execute its sagas. Or a list of several URLs, in the order of the
+            store's map: the store is then a `StoreSet`, and a saga lives in one of the databases.
         sagas: The definitions, at least one.
         concurrency: Maximum number of functions that run at once (default: 16). Steps that wait for
             a time or for a decision take no slot.
@@ -119,7 +111,8 @@ def open(
             environment variable `SAGAS_RECORD` names, if any).
         direct_url: PostgreSQL only: the URL of the server itself, if `path` is that of a pooler
             that pools transactions. Questions and claims use the pooler, and all else the server
-            (default: `path`, which has to be the server or a pooler of sessions).
+            (default: `path`, which has to be the server or a pooler of sessions). For several
+            databases, a list.
         settings: For tests and tuning (default: `Settings()`).
 
     Returns:
@@ -143,7 +136,15 @@ def open(
           failed    send: sagas.Fail: sold out
     """
     options = locals()
-    store = Store(**options)
+    if is_several(path):
+        try:
+            from sagas.api.store_set import StoreSet
+
+            store: Store = StoreSet(**options)
+        except ImportError as error:
+            raise store_name.missing_client(error) from error
+    else:
+        store = Store(**options)
     store.opened_with = options
     return store
 
@@ -200,7 +201,7 @@ class Store(Operators):
         self._retention, self._archive_dir = retention, archive_dir
         check_blobs(blobs, blob_threshold)
         self._blobs = blobs, blob_threshold
-        self._server_options = {
+        self._server_options: dict[str, Any] = {
             "record": arguments.record(record),
             "direct_url": arguments.url("direct_url", direct_url),
         }
@@ -405,21 +406,8 @@ class Store(Operators):
                 create them. Then nothing is executed.
             Closed: The store is not open.
         """
-        loop, refusal = self._coordinator.loop, self._refusal
-        stop: asyncio.Future[None] = loop.create_future()
-
-        def request_stop() -> None:
-            if not stop.done():
-                stop.set_result(None)
-
-        for number in (signal.SIGTERM, signal.SIGINT):
-            loop.add_signal_handler(number, request_stop)
-        try:
-            ends: list[asyncio.Future[Any]] = [stop, refusal]
-            await asyncio.wait(ends, return_when=asyncio.FIRST_COMPLETED)
-        finally:
-            for number in (signal.SIGTERM, signal.SIGINT):
-                loop.remove_signal_handler(number)
+        refusal = self._refusal
+        await until_stopped(refusal)
         if refusal.done():
             raise refusal.result()
 
@@ -486,6 +474,10 @@ class Store(Operators):
             await self._check_caller_start(saga, input)
             return Run(self, key, await starter.start(request, adapter))
         return await self._start(None, saga, key, input, labels, deadline, traceparent)
+
+    async def _store_of(self, key: str) -> Store:
+        """Return the store of the database that has a key, or that a start of it goes to."""
+        return self
 
     def _starter_for_callers(self) -> CallerStarter:
         """Return what writes starts by connections of callers. It needs psycopg.
@@ -657,6 +649,14 @@ class Store(Operators):
         """Wait until a saga has ended, for callers that read its row. See `Store.wait`."""
         return await self._lookup.over(key)
 
+    def _until_ended(self, key: str) -> Coroutine[Any, Any, SagaResult]:
+        """Wait until a saga has ended, for callers that limit the time themselves."""
+        return self._lookup.until_ended(key)
+
+    async def _until_idle(self) -> None:
+        """Wait until no saga is open, for callers that are no steps."""
+        await self._coordinator.settled()
+
     async def wait_idle(self) -> None:
         """Wait until no saga is open.
 
@@ -670,98 +670,6 @@ class Store(Operators):
                 "open, but its own is. Wait for that outside of a step"
             )
         await self._coordinator.settled()
-
-
-class Run:
-    """Follow a saga that was started, or found by its key. Made by `Store.start`.
-
-    Attributes:
-        key: The saga's key.
-        new: Whether this start created the saga.
-    """
-
-    def __init__(self, store: Store, key: str, new: bool = False) -> None:
-        self._store, self.key, self.new = store, key, new
-
-    async def wait(self, timeout: float | None = None) -> SagaResult:
-        """Wait until the saga has ended. See `Store.wait`."""
-        return await self._store.wait(self.key, timeout)
-
-    async def abort(self) -> bool:
-        """Abort the saga. See `Store.abort`."""
-        return await self._store.abort(self.key)
-
-    async def complete(
-        self, step: Step[Any] | str, result: Any = None, *, undo: bool = False, early: bool = True
-    ) -> None:
-        """Report that a step succeeded. See `Store.complete`."""
-        await self._store.complete(self.key, step, result, undo=undo, early=early)
-
-    async def fail(
-        self, step: Step[Any] | str, error: str, *, undo: bool = False, early: bool = True
-    ) -> None:
-        """Report that a step failed permanently. See `Store.fail`."""
-        await self._store.fail(self.key, step, error, undo=undo, early=early)
-
-    async def plan(self) -> Plan | None:
-        """Return the saga's last plan. See `Store.plan`."""
-        return await self._store.plan(self.key)
-
-    async def log(self) -> list[HistoryEvent]:
-        """Return the saga's events. See `Store.log`."""
-        return await self._store.log(self.key)
-
-    def __repr__(self) -> str:
-        return f"<run {self.key!r}>"
-
-
-class ChildOperations:
-    """The operations that the runtime performs on child sagas, by key."""
-
-    def __init__(
-        self, access: StoreAccess, lookup: SagaLookup, starter: Starter, commands: Commands
-    ) -> None:
-        self._access, self._lookup = access, lookup
-        self._starter, self._commands = starter, commands
-
-    async def start(
-        self, saga: SagaParts | CompiledDefinition, key: str, input: Any, options: StartOptions
-    ) -> bool:
-        """Start a child; return False if the key is used."""
-        return await self._starter.start_child(saga, key, input, options)
-
-    async def end(self, key: str) -> ChildEnd:
-        """Wait until a saga has ended."""
-        ended = await self._lookup.whole(key)
-        if isinstance(ended, SagaInstance):
-            end = history.live_result(ended)
-            return ChildEnd(end, ended.id, ended.kind, ended.text, ended.results)
-        coordinator = self._access.coordinator
-        known = await stored_values.until_answered(
-            functools.partial(coordinator.store.known, ended)
-        )
-        kind = coordinator.registry.kind(known.definition)
-        results = {
-            step: value or "null"
-            for step, _, _, event, value, _ in known.results
-            if event == "commit"
-        }
-        return ChildEnd(
-            history.stored_result(kind, ended, known.results), ended.id, kind, ended.input, results
-        )
-
-    async def abort(self, key: str, by: str) -> None:
-        """Abort a saga, unless it has ended."""
-        await self._commands.abort(key, self._commands.command_row(key, "abort", by, None))
-
-    async def is_dropped(self, key: str, id: int, step: int) -> bool:
-        """Return whether a plan would undo a step if all running attempts succeed."""
-        store = self._access.coordinator.store
-        view = await AsyncStoreReader(store.read, store.read_long).ask(saga_questions.view(key))
-        if view is None or view.id != id:
-            return False
-        answer = (await asyncio.to_thread(what_if.of, view)).plan.answer
-        return "cost" in answer and step not in answer.get("kept", ())
 
 
 def transactions(*arguments: Any) -> Any:

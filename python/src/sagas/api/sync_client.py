@@ -3,12 +3,14 @@
 from __future__ import annotations
 
 import os
+from collections.abc import Sequence
 from types import TracebackType
 from typing import TYPE_CHECKING, Any
 
 from sagas.api import client_start
 from sagas.api.client import Client, ClientRun
 from sagas.api.loop_thread import Facade, Loop, blocking
+from sagas.definition import arguments
 from sagas.definition.saga_result import SagaResult
 from sagas.definition.payloads import BlobStore, Codec
 from sagas.definition.labels import Labels
@@ -54,13 +56,13 @@ class SyncClient(Facade[Client]):
 
     def __init__(
         self,
-        url: str,
+        url: str | Sequence[str],
         *,
         connections: int = 4,
         codec: Codec | None = None,
         blobs: BlobStore | None = None,
         record: str | os.PathLike[str] | None = None,
-        direct_url: str | None = None,
+        direct_url: str | Sequence[str] | None = None,
     ) -> None:
         """Make a client, to be entered by `with`. See `Client`."""
         client = Client(
@@ -140,13 +142,15 @@ class SyncClient(Facade[Client]):
             options: dict[str, Any] = {"deadline": deadline, "traceparent": traceparent}
             start = self._inner.start(saga, key, input, labels=labels, **options)
             return SyncClientRun(self, self._loop.do(start))
-        starter = self._inner._starter
+        arguments.key(key)
+        inner = self._loop.do(self._inner._client_of(key))
+        starter = inner._starter
         adapter = starter.take_blocking(connection, "sagas.SyncClient")
         request = starter.start_request(saga, key, input, labels, deadline, traceparent)
         if (check := client_start.shape_check(saga, input)) is not None:
             check()
         new = starter.start_now(request, adapter, self._loop.do)
-        return SyncClientRun(self, ClientRun(self._inner, key, request, new))
+        return SyncClientRun(self, ClientRun(inner, key, request, new))
 
     def restart(
         self, key: str, new_key: str, *, by: str | None = None, note: str | None = None
@@ -198,3 +202,4 @@ class SyncClient(Facade[Client]):
     plan = blocking(Client.plan)
     log = blocking(Client.log)
     waits_for = blocking(Client.waits_for)
+    database_of = blocking(Client.database_of)

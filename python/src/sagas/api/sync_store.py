@@ -13,8 +13,10 @@ from types import TracebackType
 from typing import TYPE_CHECKING, Any, ParamSpec
 
 from sagas.api.loop_thread import Facade, Loop, blocking, blocking_plain
-from sagas.api.store import Run, Store, open
+from sagas.api.run import Run
+from sagas.api.store import Store, open
 from sagas.base.errors import InvalidStore
+from sagas.definition import arguments
 from sagas.definition.saga_result import SagaResult
 from sagas.definition.labels import Labels
 from sagas.definition.payloads import Codec
@@ -177,12 +179,14 @@ class SyncStore(Facade[Store]):
             (True, False)
         """
         if connection is not None:
-            starter = self._inner._starter_for_callers()
+            arguments.key(key)
+            inner = self._loop.do(self._inner._store_of(key))
+            starter = inner._starter_for_callers()
             adapter = starter.take_blocking(connection, "SyncStore.start")
             request = starter.start_request(saga, key, input, labels, deadline, traceparent)
-            self._loop.do(self._inner._check_caller_start(saga, input))
+            self._loop.do(inner._check_caller_start(saga, input))
             new = starter.start_now(request, adapter, self._loop.do)
-            return SyncRun(self, Run(self._inner, key, new))
+            return SyncRun(self, Run(inner, key, new))
         options: dict[str, Any] = {
             "labels": labels,
             "deadline": deadline,
@@ -203,8 +207,8 @@ class SyncStore(Facade[Store]):
 
     def wait(self, key: str, timeout: float | None = None) -> SagaResult:
         """Wait until a saga has ended. See `Store.wait`."""
-        lookup = self._inner._lookup
-        work = self._inner.wait(key) if timeout is None else lookup.until_ended(key)
+        inner = self._inner
+        work = inner.wait(key) if timeout is None else inner._until_ended(key)
         return self._loop.in_time(key, work, timeout, lambda: self._inner.waits_for(key))
 
     def wait_idle(self, timeout: float | None = None) -> None:
@@ -220,9 +224,7 @@ class SyncStore(Facade[Store]):
         """
         inner = self._inner
         try:
-            self._loop.do(
-                inner.wait_idle() if timeout is None else inner._coordinator.settled(), timeout
-            )
+            self._loop.do(inner.wait_idle() if timeout is None else inner._until_idle(), timeout)
         except TimeoutError as error:
             raise error if timeout is None else TimeoutError(
                 f"sagas are still open after {timeout:g} s. list(phase='open') returns them"
@@ -262,6 +264,7 @@ class SyncStore(Facade[Store]):
     plan = blocking(Store.plan)
     draw = blocking(Store.draw)
     audit = blocking(Store.audit)
+    database_of = blocking(Store.database_of)
 
 
 def _without_async(make: Callable[P, Store]) -> Callable[P, SyncStore]:

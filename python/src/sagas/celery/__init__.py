@@ -9,7 +9,7 @@ from __future__ import annotations
 
 import os
 import threading
-from collections.abc import Iterable
+from collections.abc import Iterable, Sequence
 from typing import TYPE_CHECKING, Any
 
 from sagas.base.errors import DefinitionError, WrongStore
@@ -60,7 +60,8 @@ class Queue:
         app: The Celery app.
         name: The queue's name; None: where the app's routes send the task (default: None).
         store: The URL or the file with which the workers reach the store. It must be the store
-            that is opened (default: `app.conf.sagas_store`).
+            that is opened. For several databases, a list of URLs in the order of the map (default:
+            `app.conf.sagas_store`).
         timeout: Seconds after which a message without a report is sent again, with the same
             idempotency key, if the step has no `timeout` (default: 300).
         patience: Seconds that a worker tries to report while the store cannot be written. Then the
@@ -79,13 +80,13 @@ class Queue:
         app: Any,
         name: str | None = None,
         *,
-        store: str | os.PathLike[str] | None = None,
+        store: str | os.PathLike[str] | Sequence[str] | None = None,
         timeout: float = 300.0,
         patience: float = 60.0,
         **options: Any,
     ) -> None:
         self.app, self.name, self.timeout, self.patience = app, name, timeout, patience
-        self._store = None if store is None else os.fspath(store)
+        self._store = store
         self._options = LATE | ({"queue": name} if name else {}) | options
         self._sessions = threading.local()
         self._sender = Sender(app)
@@ -93,7 +94,7 @@ class Queue:
 
     @property
     def store(self) -> str:
-        """The URL or the file of the store to which the workers report.
+        """The URL or the file to which the workers report; of several databases `URL,URL`.
 
         Raises:
             DefinitionError: Neither `store` nor `app.conf.sagas_store` is given.
@@ -103,7 +104,7 @@ class Queue:
             raise DefinitionError(
                 f"{self!r} has no store to report to. Set store=..., or app.conf.sagas_store"
             )
-        return os.fspath(store)
+        return os.fspath(store) if isinstance(store, (str, os.PathLike)) else ",".join(store)
 
     def declare(self, step: Step[Any], kind: str, manner: Manner) -> None:
         """Register a step's function as a task of the app.
@@ -175,7 +176,7 @@ def step(
     name: str,
     *,
     queue: str | None = None,
-    store: str | os.PathLike[str] | None = None,
+    store: str | os.PathLike[str] | Sequence[str] | None = None,
     **options: Any,
 ) -> Declare:
     """Declare a step that runs on an app's workers: `@step(app, saga, "name")`.

@@ -16,7 +16,7 @@ from celery.worker.control import inspect_command
 
 from sagas.base.errors import WrongStore
 from sagas.base.logger import logger
-from sagas.storage.store_name import shown_name, supports_nodes
+from sagas.storage.store_name import shown_name, supports_nodes, urls_of
 
 if TYPE_CHECKING:
     from sagas.celery import Queue
@@ -78,6 +78,11 @@ async def check(queue: Queue, database: Database) -> None:
             f"but the open store is {database.path}. Give both the same store"
         )
     if has_nodes:
+        if (len(urls_of(store)) > 1) != database.is_member:
+            raise WrongStore(
+                f"{queue!r}: its workers and the open store have other numbers of databases. Give "
+                "both one list"
+            )
         return
     file = file_of(database.path)
     if file != file_of(store):

@@ -17,6 +17,7 @@ from sagas.base.errors import SagasError
 from sagas.base.options import not_negative
 from sagas.cli.actions import abort, compensate, complete, erase, fail, resolve, restart, retry
 from sagas.cli.audits import audit
+from sagas.cli.database_map import add_map_options, map_command, run
 from sagas.cli.decisions import add_decisions_options, decisions
 from sagas.cli.formatting import CANNOT, INTERRUPTED, complain, drop_output, escape
 from sagas.cli.listings import (
@@ -48,6 +49,7 @@ from sagas.cli.saga_views import draw, export, list_sagas, log, plan, show
 from sagas.cli.upgrade import add_check_options, check
 from sagas.storage.admin import Trouble
 from sagas.storage.queries import PHASES
+from sagas.storage.store_name import urls_of
 
 Command = Callable[[str, argparse.Namespace], int]
 Add = Callable[..., argparse.ArgumentParser]
@@ -81,6 +83,7 @@ EXAMPLES = {
     "init": "init --role shop",
     "own-blobs": "own-blobs --blobs /var/lib/shop/blobs",
     "record": "record node-1.record node-2.record",
+    "map": "map add postgresql:///shop2",
 }
 """The arguments of an example. For other commands, the name is enough."""
 REFUSED = {
@@ -106,13 +109,14 @@ REFUSED = {
     "undrain": "the node is not drained",
     "deliveries": "no delivery has the id",
     "prune": "another program is deleting ended sagas of this store",
+    "map": "the store has no map, because it has one database",
 }
 """The meaning of status 1, for each command that can return it."""
 
 
 def ending(name: str) -> str:
     """Return an example of a command, and its exit statuses."""
-    is_database = name in ("init", "nodes", "record", "drain", "undrain")
+    is_database = name in ("init", "nodes", "record", "drain", "undrain", "map")
     store = "postgresql:///shop" if is_database else "shop.db"
     usage = "invalid arguments" + ("" if store == "shop.db" else ", or the store is a file")
     statuses = {0: "done", 1: REFUSED.get(name), 2: usage, 4: CANNOT_USE, 130: "interrupted"}
@@ -128,7 +132,11 @@ def parser() -> argparse.ArgumentParser:
         "Times are in UTC."
     )
     top = argparse.ArgumentParser(prog="sagas store", description=description)
-    top.add_argument("path", metavar="STORE", help="the store's file, or the URL of its database")
+    top.add_argument(
+        "path",
+        metavar="STORE",
+        help="the store's file, or the URL of its database; of several databases: URL,URL",
+    )
     parts = top.add_subparsers(dest="command", required=True, metavar="COMMAND")
 
     def add(name: str, command: Command, key: bool = False) -> argparse.ArgumentParser:
@@ -161,6 +169,7 @@ def parser() -> argparse.ArgumentParser:
     add_app_option(add("export", export, key=True))
     add_prune_options(add("prune", prune))
     add_blobs_option(add("own-blobs", own_blobs))
+    add_map_options(add("map", map_command))
     return top
 
 
@@ -351,6 +360,8 @@ def status_of(options: argparse.Namespace) -> int:
     """Run the command, and print why it was refused. Raises `OSError`."""
     command: Command = options.do
     try:
+        if command is not map_command and len(urls_of(options.path)) > 1:
+            return run(command, options.path, options)
         return command(options.path, options)
     except Trouble as trouble:
         complain(str(trouble))

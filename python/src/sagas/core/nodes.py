@@ -52,6 +52,7 @@ class NodeStatus:
         concurrency: How many functions may run at once; None if that is unknown.
         is_stopping: Whether it is about to end.
         drain: Its drain, or None.
+        database: The database that it is a node of, if the store has several; else None.
     """
 
     name: str
@@ -68,6 +69,7 @@ class NodeStatus:
     concurrency: int | None = None
     is_stopping: bool = False
     drain: Drain | None = None
+    database: str | None = None
 
     @property
     def state(self) -> NodeState:

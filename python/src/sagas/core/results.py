@@ -22,6 +22,7 @@ class Summary:
         labels: Its labels.
         deadline: When it is aborted if it has not ended: wall time, in seconds since 1970, or None.
         version: The version of its definition, or None if a damaged shard has lost the definition.
+        database: The database that has it, if the store has several; else None.
     """
 
     id: int
@@ -35,6 +36,7 @@ class Summary:
     labels: dict[str, str] = dataclasses.field(default_factory=dict)
     deadline: float | None = None
     version: int | None = None
+    database: str | None = None
 
 
 @dataclasses.dataclass(frozen=True, slots=True)

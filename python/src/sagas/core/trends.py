@@ -180,8 +180,12 @@ class Trends:
         return not any(self.total.counts.values()) and self.total.oldest_task is None
 
 
-def trends_of(kind: TrendRange, now: float, rows: Iterable[tuple[int, str, int]]) -> Trends:
-    """Return the trends until now. Each row has a beginning, a measure and a count."""
+CountedRow = tuple[int, str, int]
+"""The beginning of a bucket, a measure and its count."""
+
+
+def trends_of(kind: TrendRange, now: float, rows: Iterable[CountedRow]) -> Trends:
+    """Return the trends until now."""
     tallies: dict[int, dict[str, int]] = {at: {} for at in kind.buckets(now)}
     whole: dict[str, int] = {}
     for at, measure, count in rows:

@@ -107,6 +107,7 @@ class Entry:
         detail: The error, or what cannot be read. For an unused report, its result as stored.
         by: The sender of the unused report.
         digest: That of the saga's definition.
+        database: The index of the database that has the saga, if the store has several.
     """
 
     kind: str
@@ -123,6 +124,7 @@ class Entry:
     until: float | None
     by: str | None = None
     digest: str = ""
+    database: int = 0
 
     @property
     def subject(self) -> str:

@@ -703,7 +703,8 @@ class Relocation:
     async def find_elsewhere(self, driver: ShardDriver, rows: LoadedShard) -> None:
         """Withdraw unconfirmed starts in a shard whose keys other sagas have.
 
-        These sagas are in another shard, or have ended in this one.
+        These sagas are in another shard, or have ended in this one. Starts that another database
+        of the store has to make are refused.
         """
         open_keys = {key for _, key, *_ in rows.open}
         unconfirmed = [
@@ -715,6 +716,10 @@ class Relocation:
                 driver.opens_sent.pop(saga, None)
                 saga.number, saga.shard = -1, None
                 self.key_taken(saga, other)
+            elif other is None and (refusal := await self._store.refusal(saga.key)) is not None:
+                driver.opens_sent.pop(saga, None)
+                saga.number, saga.shard = -1, None
+                self._shards.refuse(saga, refusal)
 
     def stop_shard(self, driver: ShardDriver) -> None:
         """Stop what was started in a shard that another node has now.

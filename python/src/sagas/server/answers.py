@@ -11,6 +11,7 @@ from sagas.server.json_bodies import name_of_text
 from sagas.server.shapes import (
     Anything,
     Choice,
+    Either,
     Field,
     Flag,
     Mapped,
@@ -83,6 +84,13 @@ def time(name: str, description: str, nullable: bool = False) -> dict[str, Field
 
 
 DEADLINE = time("deadline", "when the saga is aborted if it has not ended", nullable=True)
+UNAVAILABLE = {
+    "unavailable": Field(
+        Mapped(Text()),
+        "why databases are missing, by their numbers; only if the store has several",
+        default=None,
+    )
+}
 PROBLEM = Record(
     "Problem",
     {
@@ -136,6 +144,7 @@ PAGE = Record(
     {
         "sagas": Field(Several(SUMMARY)),
         "next": Field(MAYBE, "`after` for the next page; null: this is the last page"),
+        **UNAVAILABLE,
     },
 )
 PLANNED = Record(
@@ -298,7 +307,11 @@ DECISIONS = Record(
     "DecisionPage",
     {
         "decisions": Field(Several(DECISION_ENTRY)),
-        "next": Field(Nullable(COUNT), "`after` for the next page; null: this is the last page"),
+        "next": Field(
+            Nullable(Either(COUNT, Text())),
+            "`after` for the next page; null: this is the last page",
+        ),
+        **UNAVAILABLE,
     },
 )
 HISTORY = Record("History", {"events": Field(Several(EVENT))})
@@ -449,7 +462,7 @@ QUEUE = Record(
         **time("oldest", "since when the oldest one waits", nullable=True),
     },
 )
-QUEUES = Record("Queues", {"queues": Field(Several(QUEUE))})
+QUEUES = Record("Queues", {"queues": Field(Several(QUEUE)), **UNAVAILABLE})
 STEP = Record(
     "StepDefinition",
     {
@@ -480,7 +493,7 @@ DEFINED = Record(
         "sagas": Field(Mapped(COUNT), "how many sagas there are in each phase, of all versions"),
     },
 )
-DEFINITIONS = Record("Definitions", {"definitions": Field(Several(DEFINED))})
+DEFINITIONS = Record("Definitions", {"definitions": Field(Several(DEFINED)), **UNAVAILABLE})
 ATTENTION_ENTRY = Record(
     "AttentionEntry",
     {
@@ -511,6 +524,7 @@ ATTENTION = Record(
         "counts": Field(Mapped(COUNT), "of each kind, without the other filters"),
         "entries": Field(Several(ATTENTION_ENTRY)),
         "next": Field(MAYBE, "`after` for the next page; null: this is the last page"),
+        **UNAVAILABLE,
     },
 )
 REFUSED_KEY = Record("RefusedKey", {"key": Field(Text()), "problem": Field(PROBLEM)})
@@ -527,6 +541,7 @@ BULK = Record(
         "warnings": Field(
             Several(Text()), "labels and steps that do not exist, if the filter selects nothing"
         ),
+        **UNAVAILABLE,
     },
 )
 SCHEDULE = Record(
@@ -564,7 +579,7 @@ PAUSE = Record(
         **time("at", "since when"),
     },
 )
-PAUSES = Record("Pauses", {"pauses": Field(Several(PAUSE))})
+PAUSES = Record("Pauses", {"pauses": Field(Several(PAUSE)), **UNAVAILABLE})
 DRAIN = Record(
     "Drain",
     {
@@ -599,10 +614,15 @@ NODE = Record(
         "running": Field(Nullable(COUNT), "the functions that run; null: unknown"),
         "concurrency": Field(Nullable(COUNT), "how many functions may run; null: unknown"),
         "drain": Field(Nullable(DRAIN), "null: it is not drained"),
+        "database": Field(
+            COST,
+            "the number of the database that it is a node of, if there are several",
+            default=None,
+        ),
     },
 )
-NODES = Record("Nodes", {"nodes": Field(Several(NODE))})
-SCHEDULES = Record("Schedules", {"schedules": Field(Several(SCHEDULE))})
+NODES = Record("Nodes", {"nodes": Field(Several(NODE)), **UNAVAILABLE})
+SCHEDULES = Record("Schedules", {"schedules": Field(Several(SCHEDULE)), **UNAVAILABLE})
 SCHEDULE_CHANGED = Record(
     "ScheduleChanged",
     {"name": Field(Text()), "done": Field(Choice(("paused", "resumed", "removed")))},
@@ -622,9 +642,9 @@ DELIVERY = Record(
         **time("due", "when the next attempt is due", nullable=True),
     },
 )
-DELIVERIES = Record("Deliveries", {"deliveries": Field(Several(DELIVERY))})
+DELIVERIES = Record("Deliveries", {"deliveries": Field(Several(DELIVERY)), **UNAVAILABLE})
 HEALTH = Record("Health", {"alive": Field(Flag())})
-READY = Record("Ready", {"ready": Field(Flag()), "reason": Field(MAYBE)})
+READY = Record("Ready", {"ready": Field(Flag()), "reason": Field(MAYBE), **UNAVAILABLE})
 
 
 # -- the timeline of a saga
@@ -751,6 +771,7 @@ TRENDS = Record(
         "bucket_seconds": Field(COUNT, "the width of a bucket in seconds"),
         "total": Field(TREND_BUCKET, "the whole range"),
         "buckets": Field(Several(TREND_BUCKET), "in the order of time; the last one has now"),
+        **UNAVAILABLE,
     },
     "Counts that each node stores once a minute. A kill loses those of the last minute.",
 )

@@ -31,7 +31,9 @@ from sagas.server.routes import (
     trends,
 )
 from sagas.server.service import Service
+from sagas.server.service_set import ServiceSet
 from sagas.server.settings import Settings
+from sagas.storage.store_name import urls_of
 
 API = [
     tasks.routes,
@@ -99,7 +101,8 @@ def application(
     settings: Settings, connections: Connections | None = None
 ) -> tuple[Guard, Service]:
     """Return the application over a store. The server opens and closes the store."""
-    service, routes = Service(settings), resources([*API, *PAGES], answered, refused)
+    service = ServiceSet(settings) if len(urls_of(settings.path)) > 1 else Service(settings)
+    routes = resources([*API, *PAGES], answered, refused)
     service.pages = {route.path: route.path_regex for route in routes if is_shown(route)}
     service.page_permissions = permissions_of_pages()
     return Guard(Paths(routes), service, connections), service

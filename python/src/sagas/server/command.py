@@ -24,6 +24,7 @@ from collections.abc import Iterator
 from typing import Any
 
 from sagas.api.app import App, load_app
+from sagas.api.database_set import checked_direct
 from sagas.api.settings import DEFAULTS
 from sagas.base import options as options_module
 from sagas.base.errors import DefinitionError, InvalidStore, SagasError
@@ -106,7 +107,10 @@ def parser() -> argparse.ArgumentParser:
         epilog=SERVE_ENDING,
         formatter_class=argparse.RawDescriptionHelpFormatter,
     )
-    store = "SQLite file, created if missing, or postgresql:// URL for one or more services"
+    store = (
+        "SQLite file, created if missing, or postgresql:// URL for one or more services; of "
+        "several databases: URL,URL"
+    )
     result.add_argument("path", metavar="STORE", help=store)
     add_sagas(result)
     add_access(result)
@@ -421,7 +425,10 @@ def options_of(parsed: argparse.Namespace, app: App | None) -> dict[str, Any]:
         payloads.checked(result.get("codec"))
         check_blobs(result.get("blobs"), result.get("blob_threshold", MIN_THRESHOLD))
         arguments.keeping(result.get("retention"), result.get("archive_dir"))
-        arguments.url("--direct-url", result.get("direct_url"))
+        if (direct := result.get("direct_url")) is not None:
+            urls = store_name.urls_of(direct) if isinstance(direct, str) else direct
+            for url in checked_direct(urls, len(store_name.urls_of(parsed.path))):
+                arguments.url("--direct-url", url)
     except (TypeError, ValueError) as error:
         raise Trouble(str(error)) from error
     return result
@@ -464,7 +471,8 @@ def check_access(parsed: argparse.Namespace) -> None:
 def check_store(parsed: argparse.Namespace) -> None:
     """Raise `Trouble` if the store cannot be opened with these options."""
     try:
-        store_name.check_name(parsed.path)
+        for name in store_name.urls_of(parsed.path):
+            store_name.check_name(name)
     except InvalidStore as error:
         raise Trouble(str(error)) from error
     if not store_name.supports_nodes(parsed.path):

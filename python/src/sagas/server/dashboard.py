@@ -20,8 +20,8 @@ from sagas.server.access import (
     service_of,
 )
 from sagas.server.auth import LOCAL_PRINCIPAL, Session
+from sagas.server.database_reads import MISSING
 from sagas.server.problems import Problem
-
 
 EVENTS = "/ui/events"
 """The stream of events that update the pages."""
@@ -38,6 +38,7 @@ def page(
     """Return a page of this template."""
     service = service_of(request)
     defaults: dict[str, Any] = {"here": "", "tokens": service.tokens is not None}
+    defaults["missing"] = sorted({**service.missing, **request.scope.get(MISSING, {})})
     if session is not None:
         defaults["paused"] = service.pauses_of(session.principal)
         defaults["can"] = functools.partial(service.may_open, session.principal)

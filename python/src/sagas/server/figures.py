@@ -7,7 +7,7 @@ import dataclasses
 import functools
 import logging
 import time
-from collections.abc import Awaitable, Callable
+from collections.abc import Awaitable, Callable, Sequence
 
 from sagas.inspection import lists, store_figures
 from sagas.inspection.question import Question
@@ -39,6 +39,17 @@ class CachedFigures:
     attention: AttentionFigures
     until: float
     seen: int
+
+
+def summed(parts: Sequence[Counts]) -> Counts:
+    """Return the sums of the figures of several databases."""
+    phases: Phases = {}
+    for counts, _ in parts:
+        for name, numbers in counts.items():
+            before = phases.get(name, {})
+            phases[name] = {phase: before.get(phase, 0) + n for phase, n in numbers.items()}
+    kinds = dict.fromkeys(kind for _, numbers in parts for kind in numbers)
+    return phases, {kind: sum(numbers.get(kind, 0) for _, numbers in parts) for kind in kinds}
 
 
 class Figures:

@@ -7,8 +7,13 @@ from typing import Any
 
 Sample = tuple[str, dict[str, str], float]
 """A name, labels and a value."""
-LOWEST = ("sagas_start_time_seconds", "process_start_time_seconds")
-HIGHEST = ("sagas_build_info",)
+LOWEST = ("sagas_start_time_seconds", "process_start_time_seconds", "sagas_store_up")
+HIGHEST = (
+    "sagas_build_info",
+    "sagas_attention_oldest_seconds",
+    "sagas_tasks_oldest_seconds",
+    "sagas_paused",
+)
 """Metrics that are not summed."""
 
 

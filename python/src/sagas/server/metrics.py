@@ -88,6 +88,7 @@ INTERNAL_ERRORS = (
     "shard_lost",
 )
 TYPE = CONTENT_TYPE_LATEST
+PROCESSES = "Processes of this service that answered"
 MAX_BEGUN = 100_000
 """Maximum number of attempts whose start time is remembered."""
 Begun = tuple[Optional[str], Optional[str], Union[int, str, None], bool, Optional[int]]
@@ -106,13 +107,18 @@ class Metrics:
     new series.
     """
 
-    def __init__(self, service: Service, sagas: Iterable[Saga[Any]] = ()) -> None:
+    def __init__(
+        self,
+        service: Service,
+        sagas: Iterable[Saga[Any]] = (),
+        durations: Durations | None = None,
+    ) -> None:
         self.registry = CollectorRegistry()
         self._service = service
         declared = {(saga.name, saga.version): saga for saga in sagas}
         self._sagas = [*undo_sagas.with_undo_sagas(declared).values()]
         self._names = sorted({saga.name for saga in self._sagas})
-        self.durations = Durations()
+        self.durations = durations or Durations()
         self._began: OrderedDict[Begun, float] = OrderedDict()
         self.started = self._counter("sagas_started", "Sagas that were started", "saga")
         self.ended = self._counter("sagas_ended", "Sagas that ended, by phase", "saga", "phase")
@@ -269,15 +275,17 @@ class Metrics:
 
         If the store does not answer, its gauges are left out.
         """
-        gauges = await store_gauges.read(self._service)
+        of_store = await self.of_store()
         siblings = self._service.settings.siblings
         number, counted = 1, [*self.of_process()]
         if siblings:
-            number, counted = await self._of_processes(siblings)
-        answered = "Processes of this service that answered"
-        counted.append(GaugeMetricFamily("sagas_processes", answered, number))
-        shown = Families([*counted, *self._of_store(gauges)])
-        return generate_latest(shown)  # type: ignore[arg-type]
+            number, counted = await of_processes(siblings)
+        counted.append(GaugeMetricFamily("sagas_processes", PROCESSES, number))
+        return text_of([*counted, *of_store])
+
+    async def of_store(self) -> list[Metric]:
+        """Return the gauges of the store. If it does not answer, most are left out."""
+        return [*self._of_store(await store_gauges.read(self._service))]
 
     def _of_store(self, gauges: StoreGauges | None) -> Iterator[Metric]:
         """Yield the gauges of the store."""
@@ -287,32 +295,9 @@ class Metrics:
             yield from store_gauges.families(gauges, self._names, time.time())
             yield store_gauges.paused(self._service.store._pauses)
 
-    async def _of_processes(self, siblings: Siblings) -> tuple[int, list[Metric]]:
-        """Return how many processes answered, and what all of the command count.
-
-        Raises `Problem`.
-        """
-        try:
-            number, dump = await siblings.ask(ProcessQuestion.METRICS)
-        except TimeoutError:
-            raise Problem(
-                "Closed",
-                "the command that started this process has not answered. It may be stopping; "
-                "retry the same request",
-            ) from None
-        return number, [metric_of(*family) for family in dump]
-
     def dump(self) -> list[Any]:
         """Return what this process counts, as JSON."""
-        return [
-            [
-                metric.name,
-                metric.type,
-                metric.documentation,
-                [[sample.name, sample.labels, sample.value] for sample in metric.samples],
-            ]
-            for metric in self.of_process()
-        ]
+        return dump_of(self.of_process())
 
     def of_process(self) -> Iterator[Metric]:
         """Yield what this process counts."""
@@ -328,6 +313,40 @@ class Metrics:
         yield GaugeMetricFamily(
             "sagas_event_streams", "Open event streams", self._service.hub.listeners
         )
+
+
+async def of_processes(siblings: Siblings) -> tuple[int, list[Metric]]:
+    """Return how many processes answered, and what all of the command count.
+
+    Raises `Problem`.
+    """
+    try:
+        number, dump = await siblings.ask(ProcessQuestion.METRICS)
+    except TimeoutError:
+        raise Problem(
+            "Closed",
+            "the command that started this process has not answered. It may be stopping; "
+            "retry the same request",
+        ) from None
+    return number, [metric_of(*family) for family in dump]
+
+
+def text_of(metrics: list[Metric]) -> bytes:
+    """Return metrics in Prometheus's text format."""
+    return generate_latest(Families(metrics))  # type: ignore[arg-type]
+
+
+def dump_of(metrics: Iterable[Metric]) -> list[Any]:
+    """Return metrics as JSON."""
+    return [
+        [
+            metric.name,
+            metric.type,
+            metric.documentation,
+            [[sample.name, sample.labels, sample.value] for sample in metric.samples],
+        ]
+        for metric in metrics
+    ]
 
 
 class Families:

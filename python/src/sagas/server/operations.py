@@ -251,7 +251,7 @@ class Resource:
         call = await operation.call(request, principal, self._is_page)
         if method == "HEAD" and operation.streams:
             return Response(media_type="text/event-stream")
-        return await operation.handler(call)
+        return await call.service.carry_out(operation, call)
 
     def _principal(self, request: Request, permission: Permission | None) -> Principal:
         """Return the principal of a request: of a page by its session, else by its token.

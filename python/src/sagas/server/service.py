@@ -16,7 +16,8 @@ from typing import TYPE_CHECKING, Any, TypeVar
 
 from sagas.api import store
 from sagas.api.restarts import check_restartable
-from sagas.api.store import Run, Store
+from sagas.api.run import Run
+from sagas.api.store import Store
 from sagas.base.errors import (
     Closed,
     DefinitionError,
@@ -45,16 +46,20 @@ from sagas.server.event_stream import Hub
 from sagas.server.explanations import Explanations
 from sagas.server.figures import Figures
 from sagas.server.limits import ConcurrencyLimits, Quotas, Rates, StreamLimits
-from sagas.server.metrics import Metrics
+from sagas.server.metrics import Durations, Metrics
 from sagas.server.middleware import REQUEST_ID, SLASH, parted
 from sagas.server.settings import Settings
 from sagas.server.shown_fields import ShownFields
 from sagas.server.siblings import ProcessQuestion, SharedSessions
 from sagas.server.threads import Threads
 from sagas.server.webhooks import Webhooks
-from sagas.storage import store_name
+from sagas.storage import factory, store_name
 
 if TYPE_CHECKING:
+    from starlette.responses import Response
+
+    from sagas.server.operations import Call, Operation
+    from sagas.server.service_set import ServiceSet
     from sagas.storage.interface import Peers
 
 T = TypeVar("T")
@@ -124,21 +129,31 @@ def sessions_of(settings: Settings) -> Sessions:
     return SharedSessions(settings.session_time, settings.siblings)
 
 
-class Service:
-    """A served store. Use the other methods only between `begin` and `end`."""
+class Shared:
+    """What the services of one process share, if the store has several databases."""
 
     def __init__(self, settings: Settings) -> None:
-        self.settings = settings
         self.hub = Hub()
-        self.metrics = Metrics(self, settings.sagas)
         self.tokens = Tokens(settings.tokens, logger.error) if settings.tokens else None
         self.sessions = sessions_of(settings)
-        self.rates = Rates(settings.rate)
-        self.refusals = Rates(5.0)
-        self.quotas = Quotas(settings.quota, self.look)
+        self.rates, self.refusals = Rates(settings.rate), Rates(5.0)
+        self.durations = Durations()
         self.concurrency = ConcurrencyLimits(settings.concurrency)
         streams = settings.streams
         self.streams = StreamLimits(streams.maximum, streams.max_each, streams.kept)
+        self.workers: OrderedDict[str, Seen] = OrderedDict()
+        self.claims = WaitingClaims()
+        self.group: ServiceSet | None = None
+
+
+class Service:
+    """A served store. Use the other methods only between `begin` and `end`."""
+
+    def __init__(self, settings: Settings, shared: Shared | None = None) -> None:
+        self.settings = settings
+        self.share(shared or Shared(settings))
+        self.metrics = Metrics(self, settings.sagas, self.shared.durations)
+        self.quotas = Quotas(settings.quota, self.look)
         self.store: Store = store.open(
             settings.path,
             settings.sagas,
@@ -161,15 +176,80 @@ class Service:
         """The pages that users visit, by the paths of their routes."""
         self.page_permissions: dict[tuple[str, str], Permission | None] = {}
         """What the routes of the dashboard require, by their methods and paths."""
-        self.workers: OrderedDict[str, Seen] = OrderedDict()
-        self.claims = WaitingClaims()
         self.unwritten: float | None = None
-        self.figures = Figures(self.hub, self.look)
+        self.figures: Figures = Figures(self.hub, self.look)
         self.explanations = Explanations()
         self.shown_fields = ShownFields(self)
         if settings.siblings:
             settings.siblings.answers[ProcessQuestion.METRICS] = lambda _: self.metrics.dump()
             settings.siblings.answers[ProcessQuestion.END_CLAIMS] = self.claims.end
+
+    def share(self, shared: Shared) -> None:
+        """Use what services share."""
+        self.shared, self.hub = shared, shared.hub
+        self.tokens, self.sessions, self.rates = shared.tokens, shared.sessions, shared.rates
+        self.concurrency, self.streams = shared.concurrency, shared.streams
+
+    @property
+    def refusals(self) -> Rates:
+        """The rates of requests without a valid token, by address."""
+        return self.shared.refusals
+
+    @property
+    def workers(self) -> OrderedDict[str, Seen]:
+        """The workers that polled, by name."""
+        return self.shared.workers
+
+    @property
+    def claims(self) -> WaitingClaims:
+        """The claims that wait."""
+        return self.shared.claims
+
+    async def carry_out(self, operation: Operation, call: Call) -> Response:
+        """Return the answer to a call. Raises `Problem`, and errors of the package."""
+        return await operation.handler(call)
+
+    @property
+    def unavailable(self) -> dict[str, str] | None:
+        """Why databases cannot be used, by their numbers; None if the store has only one."""
+        return None
+
+    @property
+    def missing(self) -> dict[str, str]:
+        """Why databases of the store cannot be used, by their numbers."""
+        return (self.shared.group or self).unavailable or {}
+
+    async def each(
+        self, work: Callable[[Service, int], Awaitable[T]]
+    ) -> tuple[dict[int, T], dict[str, str]]:
+        """Await what reads a database, for each database of the store that answers.
+
+        Returns:
+            The results by the index of the database, and why others have none, by number.
+        """
+        return {0: await work(self, 0)}, {}
+
+    @property
+    def in_use(self) -> list[Service]:
+        """The services of the databases that can be used: this one, if the store has only one."""
+        return [self]
+
+    @property
+    def database_count(self) -> int:
+        """The number of databases of the store that this service was started with."""
+        return 1
+
+    def check_complete(self) -> None:
+        """Raise `Problem` if a database of the store does not answer, and may have something."""
+
+    async def service_of(self, key: str) -> Service:
+        """Return the service of the database that has a key, or that a start of it goes to."""
+        return self if self.shared.group is None else await self.shared.group.service_of(key)
+
+    async def reach(self) -> None:
+        """Find out whether the database answers. See `factory.reach`."""
+        options = self.settings.store.options
+        await factory.reach(options.get("direct_url") or self.settings.path)
 
     # -- life
 
@@ -187,7 +267,7 @@ class Service:
             await self.store.close(0.0)
             raise
         self.webhooks.begin()
-        self.threads = Threads(self.store._reader)
+        self.threads: Threads = Threads(self.store._reader)
         self.figures.prime()
         fields = self._description()
         message = "service started: sagas %s, store %s, node %s"
@@ -464,7 +544,8 @@ class Service:
         row, phase, version = await self.look(one_saga.to_restart(key))
         check_restartable(key, phase)
         saga = self.saga_named(principal, row.saga, version)
-        run = await self._started(
+        there = await self.service_of(new_key)
+        run = await there._started(
             principal,
             len(row.input),
             new_key,

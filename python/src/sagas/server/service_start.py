@@ -19,7 +19,6 @@ from sagas.server.middleware import Guard, Receive, Scope, Send, answer_of
 from sagas.server.operations import headers_of
 from sagas.server.problems import HEADERS, Problem
 from sagas.server.service import Service
-from sagas.storage import factory
 
 FIRST_PAUSE, MAX_PAUSE = 0.1, 5.0  # seconds
 LIVE, READY = "/health/live", "/health/ready"
@@ -105,7 +104,7 @@ class ServiceStart:
         is_stopped = self._service.stopping.done
         while not is_stopped():  # a connection attempt may swallow the cancellation
             try:
-                await factory.reach(settings.store.options.get("direct_url") or settings.path)
+                await self._service.reach()
                 if not is_stopped():
                     await self.open()
                 return

@@ -166,6 +166,29 @@ class Flag(Shape):
 
 
 @dataclasses.dataclass(frozen=True)
+class Either(Shape):
+    """A value of one shape, or else of another one."""
+
+    first: Shape
+    second: Shape
+
+    def read(self, value: Any, field: str) -> Any:
+        try:
+            return self.first.read(value, field)
+        except Invalid:
+            return self.second.read(value, field)
+
+    def of_text(self, text: str, field: str) -> Any:
+        try:
+            return self.first.of_text(text, field)
+        except Invalid:
+            return self.second.of_text(text, field)
+
+    def schema(self) -> Schema:
+        return {"anyOf": [self.first.schema(), self.second.schema()]}
+
+
+@dataclasses.dataclass(frozen=True)
 class Nullable(Shape):
     """A shape, or null."""
 
@@ -179,6 +202,8 @@ class Nullable(Shape):
 
     def schema(self) -> Schema:
         inner = self.shape.schema()
+        if "anyOf" in inner:
+            return {"anyOf": [*inner["anyOf"], {"type": "null"}]}
         if "$ref" in inner or "enum" in inner:
             return {"oneOf": [inner, {"type": "null"}]}
         return inner if "type" not in inner else {**inner, "type": [inner["type"], "null"]}

@@ -52,6 +52,7 @@ class BatchResult:
             `on_end`.
         warnings: What may be misspelled, if the filter selects nothing: labels that no saga
             has.
+        unavailable: Why nothing was done in a database, by its name, if the store has several.
     """
 
     done: list[str] = dataclasses.field(default_factory=list)
@@ -59,6 +60,7 @@ class BatchResult:
     waiting: list[str] = dataclasses.field(default_factory=list)
     undoing: list[str] = dataclasses.field(default_factory=list)
     warnings: list[str] = dataclasses.field(default_factory=list)
+    unavailable: dict[str, str] = dataclasses.field(default_factory=dict)
 
 
 def resolve_one(connection: Source, key: str, note: str, by: str | None = None) -> bool:

@@ -12,8 +12,8 @@ from sagas.definition.registry import DefinitionRegistry
 from sagas.storage.interface import Database
 from sagas.storage.record_file import record_path
 from sagas.storage.sqlite.storage import Sqlite
-from sagas.storage.store_name import check_name, is_url, missing_client
-from sagas.storage.worker_session import WorkerSession
+from sagas.storage.store_name import check_name, is_url, missing_client, urls_of
+from sagas.storage.worker_session import WorkerSession, WorkerSessionSet
 
 
 def make(
@@ -25,11 +25,12 @@ def make(
     transactions: Callable[..., Any],
     record: str | None = None,
     direct_url: str | None = None,
+    is_member: bool = False,
 ) -> Database:
     """Return the database of that name, not yet opened.
 
-    `transactions`, `record` and `direct_url` are those of `PostgreSQL`. Without `record`, the
-    environment names the file.
+    `transactions`, `record`, `direct_url` and `is_member` are those of `PostgreSQL`. Without
+    `record`, the environment names the file.
 
     Raises `ImportError` if something that it needs is not installed, `InvalidStore` and
     `DefinitionError`.
@@ -73,6 +74,7 @@ def make(
         record=record_path(record),
         encodes=definitions.payloads.codec is not None,
         direct_url=direct_url,
+        is_member=is_member,
     )
 
 
@@ -107,11 +109,17 @@ def definition_names(definitions: DefinitionRegistry) -> list[str]:
 
 
 def open_worker_session(store: str) -> WorkerSession:
-    """Return a session with that store. It connects with its first query."""
+    """Return a session with that store: a file, or one URL or more with commas between.
+
+    It connects with its first query.
+    """
     if is_url(store):
         from sagas.storage.postgresql.worker_session import PostgreSQLWorkerSession
 
-        return PostgreSQLWorkerSession(store)
+        urls = urls_of(store)
+        if len(urls) == 1:
+            return PostgreSQLWorkerSession(store)
+        return WorkerSessionSet([PostgreSQLWorkerSession(url) for url in urls])
     from sagas.storage.sqlite.worker_session import SqliteWorkerSession
 
     return SqliteWorkerSession(store)

@@ -36,7 +36,7 @@ from collections.abc import Awaitable, Callable, Sequence
 from concurrent.futures import Executor
 from typing import TYPE_CHECKING, Any, Optional, Protocol
 
-from sagas.base.errors import InvalidStore
+from sagas.base.errors import InvalidStore, StoreUnavailable
 from sagas.core.shard.balance import NodeFigures, NodeShare
 from sagas.core.shard.batch import (
     Batch,
@@ -225,6 +225,9 @@ class Database(CommitWriter, Protocol):
     something cannot be read or written.
     """
 
+    is_member: bool
+    """Whether the program has all databases of the store, which has several."""
+
     @property
     def file(self) -> str:
         """The name by which a program opens it again: the file's whole path, or the URL."""
@@ -302,6 +305,12 @@ class Database(CommitWriter, Protocol):
 
     async def find(self, key: str) -> SagaRow | None:
         """Return the saga with this key. Its input may be a reference to a blob."""
+
+    async def refusal(self, key: str) -> StoreUnavailable | None:
+        """Return why this database starts no saga with a key that it does not have.
+
+        Another database of the store has the key. It is None if this one has it.
+        """
 
     def find_many(self, keys: Sequence[str]) -> dict[str, SagaRow]:
         """Return the sagas that have these keys, by key, at once. It is only for a file."""

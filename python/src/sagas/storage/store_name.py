@@ -10,12 +10,22 @@ from sagas.base.errors import InvalidStore
 
 SCHEMES = ("postgresql:", "postgres:")
 FORM = "postgresql://user@host/database"
+BETWEEN = re.compile(r",(?=postgres(?:ql)?:)")
+"""Between two URLs."""
 NO_FILE = re.compile(
     r"(?P<scheme>[a-z][a-z0-9+.:-]*)://|(?P<url>postgres(?:ql)?(?::|//|/[^/]*@))"
     r"|(?:host|hostaddr|port|dbname|user|password|passfile|service)\s*=|\w+\s*=.*\s\w+\s*=",
     re.IGNORECASE | re.DOTALL,
 )
 """Names that are meant for a database, and are not a valid URL of one."""
+
+
+def urls_of(name: str) -> list[str]:
+    """Return the databases that an argument of a command names: `URL,URL`, or one.
+
+    A URL with several hosts has commas, too.
+    """
+    return BETWEEN.split(name)
 
 
 def is_url(name: str) -> bool:

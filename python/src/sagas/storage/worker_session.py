@@ -5,10 +5,11 @@ A worker asks for an attempt before it calls the function, and reports the outco
 
 from __future__ import annotations
 
-from collections.abc import Callable
+from collections import OrderedDict
+from collections.abc import Callable, Sequence
 from typing import Any, Protocol
 
-from sagas.base.errors import WrongStore
+from sagas.base.errors import StoreUnavailable, WrongStore
 from sagas.core.attempt.external_work import AttemptTexts, Order, Position, saga_id
 from sagas.core.outcomes import Outcome
 from sagas.definition.payloads import PLAIN
@@ -26,6 +27,8 @@ RESULT = (
 DEFINITION = f"SELECT text FROM {queries.DEFINED} WHERE s.id = ?"
 SHAPE = "SELECT shape FROM shapes WHERE id = ?"
 OPEN = (None, "unknown", "suspended")
+MAX_SHARDS = 10_000
+"""Maximum number of shards whose databases are remembered."""
 
 
 class WorkerSession(Protocol):
@@ -50,6 +53,56 @@ class WorkerSession(Protocol):
 
     def close(self) -> None:
         """Close the connection."""
+
+
+class WorkerSessionSet:
+    """A worker's connections to the databases of a store over several, for one thread.
+
+    An attempt is in the database that has its shard.
+    """
+
+    def __init__(self, sessions: Sequence[WorkerSession]) -> None:
+        self._sessions = sessions
+        self._by_shard: OrderedDict[str, WorkerSession] = OrderedDict()
+
+    def begin(self, order: Order) -> AttemptTexts | None:
+        """See `WorkerSession.begin`.
+
+        If no database has the shard and one does not answer, that one may have it.
+        """
+        if order.log in self._by_shard:
+            return self._by_shard[order.log].begin(order)
+        wrong: WrongStore | None = None
+        unavailable: StoreUnavailable | None = None
+        for session in self._sessions:
+            try:
+                texts = session.begin(order)
+            except WrongStore as error:
+                wrong = error
+            except StoreUnavailable as error:
+                unavailable = error
+            else:
+                self._by_shard[order.log] = session
+                if len(self._by_shard) > MAX_SHARDS:
+                    self._by_shard.popitem(last=False)
+                return texts
+        if unavailable is not None:
+            raise unavailable
+        assert wrong is not None
+        raise wrong
+
+    def report(self, order: Order, outcome: Outcome) -> None:
+        """See `WorkerSession.report`. This thread has started the attempt."""
+        self._by_shard[order.log].report(order, outcome)
+
+    def within(self, order: Order, function: Function) -> Function:
+        """See `WorkerSession.within`. This thread has started the attempt."""
+        return self._by_shard[order.log].within(order, function)
+
+    def close(self) -> None:
+        """Close the connections."""
+        for session in self._sessions:
+            session.close()
 
 
 def fetched(

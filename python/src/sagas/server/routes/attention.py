@@ -2,6 +2,8 @@
 
 from __future__ import annotations
 
+import re
+
 from starlette.responses import Response
 
 from sagas.inspection import attention_pages
@@ -18,16 +20,26 @@ from sagas.storage.filters import Filter
 routes = Routes("operators", "/v1")
 KINDS = attention_pages.KINDS
 KIND = "|".join(KINDS)
+CURSOR = rf"({KIND})\.{filters.POSITION}\.-?[0-9]{{1,4}}"
 
 
 def parse_cursor(cursor: str | None) -> tuple[str | None, EntryPosition]:
     """Return the kind and the position in a cursor."""
     if cursor is None:
         return None, None
+    if not re.fullmatch(CURSOR, cursor):
+        raise filters.other_list()
     kind, _, rest = cursor.partition(".")
     position, _, step = rest.rpartition(".")
     at, id = filters.parse_position(position)
     return kind, (at, id, int(step))
+
+
+def checked_cursor(position: object) -> str:
+    """Return a cursor of a merged list. Raises `ValueError` for any other value."""
+    if not isinstance(position, str) or not re.fullmatch(CURSOR, position):
+        raise ValueError
+    return position
 
 
 def cursor_of(entry: Entry) -> str:
@@ -69,7 +81,7 @@ def pages(
             Choice(("oldest", "newest")), "which entries of each kind come first", default="oldest"
         ),
         "after": Field(
-            Text(max_length=90, pattern=rf"({KIND})\.{filters.POSITION}\.-?[0-9]{{1,4}}"),
+            Text(max_length=filters.MAX_TOKEN, pattern=f"{CURSOR}|{filters.MERGED}"),
             "`next` of the previous page",
             default=None,
         ),

@@ -7,21 +7,33 @@ from urllib.parse import urlencode
 
 from starlette.responses import Response
 
+from sagas.core import page_tokens
 from sagas.core.decisions import Decision, DecisionEntry, Way
+from sagas.core.merged_lists import MergedList, page_of
 from sagas.inspection import decision_questions
 from sagas.inspection.decision_questions import MAX_KEYS, DecisionFilter
 from sagas.server import answers
 from sagas.server.auth import Permission, Principal
 from sagas.server.dashboard import show_page
+from sagas.server.database_reads import of_each, unavailable_of
 from sagas.server.json_bodies import Json, times
 from sagas.server.operations import Answer, Call, Routes
+from sagas.server.routes import filters
 from sagas.server.routes.filters import LIMIT
-from sagas.server.shapes import Choice, Field, Number, Text
+from sagas.server.service import Service
+from sagas.server.shapes import Choice, Either, Field, Number, Text
 
 routes = Routes("operators", "/v1")
 page_routes = Routes("pages", is_page=True)
 MAX_NUMBER = 1 << 62
-AFTER = Field(Number(1, MAX_NUMBER, whole=True), "`next` of the previous page", default=None)
+AFTER = Field(
+    Either(
+        Number(1, MAX_NUMBER, whole=True),
+        Text(max_length=filters.MAX_TOKEN, pattern=filters.MERGED),
+    ),
+    "`next` of the previous page",
+    default=None,
+)
 FILTERS = {
     "key": Field(Text(max_length=512), "only decisions on this saga", default=None),
     "definition": Field(
@@ -37,6 +49,46 @@ def filter_of(principal: Principal, query: Any) -> DecisionFilter:
     """Return the filter of a query, within what the principal may see."""
     names = query["key"] or None, query["definition"] or None, query["decision"] or None
     return DecisionFilter(*names, scope=principal.scope)
+
+
+def positions_of(after: int | str | None, count: int) -> list[int | None]:
+    """Return the number of the last entry of the previous page, in each database.
+
+    Raises `Problem`.
+    """
+    if count == 1 and not isinstance(after, str):
+        return [after]
+    return filters.positions_of("decisions", after, count, page_tokens.number)
+
+
+async def entries_of(call: Call, limit: int, ahead: int = 0) -> MergedList[DecisionEntry]:
+    """Return a page of decisions of all databases, the newest first, with the next position.
+
+    `ahead`: 1 if the next page must not be empty. Raises `Problem`.
+    """
+    of, count = filter_of(call.principal, call.query), call.service.database_count
+    positions = positions_of(call.query["after"], count)
+
+    async def part(service: Service, index: int) -> list[DecisionEntry]:
+        return await service.look(decision_questions.listed(of, positions[index], limit + ahead))
+
+    parts = await of_each(call, part)
+    return page_of(
+        "decisions",
+        parts,
+        lambda entry: -entry.at,
+        positions,
+        lambda entry: entry.number,
+        limit,
+        {},
+        limit + ahead,
+    )
+
+
+def next_of(call: Call, page: MergedList[DecisionEntry]) -> int | str | None:
+    """Return `after` for the next page: a token, or a number if the store has one database."""
+    is_one = call.service.database_count == 1
+    return page[-1].number if is_one and page.next is not None else page.next
 
 
 def entry_json(entry: DecisionEntry) -> dict[str, Any]:
@@ -79,27 +131,22 @@ async def decisions(call: Call) -> Response:
     see all sagas. A decision on many sagas at once is one entry, with the sagas that the token may
     see, at most 1,000. Decisions are deleted with their sagas.
     """
-    limit = call.query["limit"]
-    of = filter_of(call.principal, call.query)
-    question = decision_questions.listed(of, call.query["after"], limit)
-    entries = await call.service.look(question)
-    more = entries[-1].number if len(entries) == limit else None
-    return Json({"decisions": [entry_json(entry) for entry in entries], "next": more})
+    entries = await entries_of(call, call.query["limit"])
+    rows = [entry_json(entry) for entry in entries]
+    return Json({"decisions": rows, "next": next_of(call, entries)} | unavailable_of(call))
 
 
 @page_routes.get("/ui/decisions", permission=Permission.BROWSE, query=FILTERS | {"after": AFTER})
 async def page(call: Call) -> Response:
     """Show who decided what."""
     principal, query = call.principal, dict(call.query)
-    of, limit = filter_of(principal, query), LISTED
-    entries = await call.service.look(decision_questions.listed(of, query["after"], limit + 1))
+    entries = await entries_of(call, LISTED, ahead=1)
     counts, _ = await call.service.figures.of(principal.scope)
-    shown = entries[:limit]
     older = None
-    if len(entries) > limit:
+    if (after := next_of(call, entries)) is not None:
         parts = {name: value for name, value in query.items() if value and name != "after"}
-        older = f"/ui/decisions?{urlencode(parts | {'after': shown[-1].number})}"
-    values: dict[str, Any] = {"entries": shown, "keys": SHOWN, "older": older, "query": query}
+        older = f"/ui/decisions?{urlencode(parts | {'after': after})}"
+    values: dict[str, Any] = {"entries": entries, "keys": SHOWN, "older": older, "query": query}
     values |= {"names": counts, "decisions": [*Decision], "ways": WAYS}
     return show_page(call.request, "decisions.html", here="decisions", **values)
 

@@ -21,9 +21,10 @@ from sagas.inspection.failure_cases import Moment
 from sagas.inspection.picture import Box, StepDisplay
 from sagas.inspection.lists import COUNTED
 from sagas.inspection.question import Question
-from sagas.server import answers, declared_steps, explanations
+from sagas.server import answers, declared_steps, explanations, figures
 from sagas.server.auth import Permission
 from sagas.server.dashboard import show_page
+from sagas.server.database_reads import of_each, replies_to, unavailable_of
 from sagas.server.declared_steps import COMPUTED, DeclaredStep
 from sagas.server.json_bodies import Json
 from sagas.server.operations import Answer, Call, Routes
@@ -74,14 +75,16 @@ async def listed(call: Call) -> Response:
 
     Returns those that the token may see, with their steps and the number of their sagas.
     """
-    counts, _ = await call.service.figures.of(call.principal.scope)
+    scope = call.principal.scope
+    parts = await of_each(call, lambda service, _: service.figures.of(scope))
+    counts, _ = figures.summed([*parts.values()])
     no_counts = dict.fromkeys(COUNTED, 0)
     visible = [saga for saga in call.service.settings.sagas if call.principal.sees(saga.name)]
     visible.sort(key=lambda saga: (saga.name, saga.version))
     listed_definitions = [
         definition_json(saga, counts.get(saga.name, no_counts)) for saga in visible
     ]
-    return Json({"definitions": listed_definitions})
+    return Json({"definitions": listed_definitions} | unavailable_of(call))
 
 
 # -- pages
@@ -140,12 +143,7 @@ async def definition_page(call: Call) -> Response:
             request, "fault.html", 404, text=f"No definition is named {name}.", **values
         )
 
-    def question() -> Question[tuple[dict[str, AtStep], list[tuple[float, int, int]]]]:
-        return (yield from definitions.at_steps(name, principal.scope)), (
-            yield from definitions.costs(name, time.time(), principal.scope)
-        )
-
-    at, costs = await service.look(question())
+    at, costs = await figures_of(call, name)
     phases = counts.get(name, dict.fromkeys(COUNTED, 0))
     over = phases["completed"] + phases["recovered"] + phases["resolved"] + phases["stuck"]
     more: dict[str, Any] = {"name": name, "saga": None, "of": phases, "costs": costs}
@@ -159,6 +157,24 @@ async def definition_page(call: Call) -> Response:
     return show_page(
         request, "definition.html", here="definitions", live="/ui/events", since=since, **more
     )
+
+
+async def figures_of(
+    call: Call, name: str
+) -> tuple[dict[str, AtStep], list[tuple[float, int, int]]]:
+    """Return what is at each step of a definition, and the costs of each day, of all databases."""
+    now, scope = time.time(), call.principal.scope
+
+    def question() -> Question[tuple[dict[str, AtStep], list[tuple[float, int, int]]]]:
+        at_steps = yield from definitions.at_steps(name, scope)
+        return at_steps, (yield from definitions.costs(name, now, scope))
+
+    parts = await replies_to(call, question)
+    steps = dict.fromkeys(step for at_steps, _ in parts for step in at_steps)
+    at = {step: total([part.get(step, AtStep()) for part, _ in parts]) for step in steps}
+    days = zip(*(costs for _, costs in parts))
+    sums = [(day[0][0], sum(n for _, n, _ in day), sum(cost for *_, cost in day)) for day in days]
+    return at, sums
 
 
 async def step_values(call: Call, saga: Saga[Any], at: dict[str, AtStep]) -> dict[str, Any]:

@@ -11,9 +11,9 @@ from starlette.responses import RedirectResponse, Response
 from sagas.inspection import delivery_questions
 from sagas.inspection.delivery_questions import Delivery
 from sagas.server import answers
-from sagas.server.access import service_of
 from sagas.server.auth import Permission, Principal
 from sagas.server.dashboard import session_and_form, show_page
+from sagas.server.database_reads import of_each, unavailable_of
 from sagas.server.json_bodies import Json, times
 from sagas.server.operations import Answer, Call, Routes
 from sagas.server.problems import Problem
@@ -49,16 +49,28 @@ def check_all(principal: Principal) -> None:
         raise Problem("Forbidden", f"{principal.name} is restricted to some definitions")
 
 
-async def post_again(service: Service, principal: Principal, id: str) -> Delivery:
-    """Post a delivery again. Raises `Problem`."""
-    check_all(principal)
-    done = await service.store.deliveries.redeliver(id)
-    delivery = await service.look(delivery_questions.delivery(id)) if done else None
-    if delivery is None:
-        raise Problem("NoSuchDelivery", f"no delivery has the id {id[:64]!r}")
-    logger.info("%s has the delivery %s posted again", principal.name, delivery.id)
-    service.webhooks.look()
-    return delivery
+async def post_again(call: Call, id: str) -> Delivery:
+    """Post a delivery again, in the database that has it. Raises `Problem`."""
+    check_all(call.principal)
+    for service in call.service.in_use:
+        done = await service.store.deliveries.redeliver(id)
+        delivery = await service.look(delivery_questions.delivery(id)) if done else None
+        if delivery is not None:
+            logger.info("%s has the delivery %s posted again", call.principal.name, delivery.id)
+            service.webhooks.look()
+            return delivery
+    call.service.check_complete()
+    raise Problem("NoSuchDelivery", f"no delivery has the id {id[:64]!r}")
+
+
+async def latest(call: Call, state: str | None, webhook: str | None, limit: int) -> list[Delivery]:
+    """Return the latest deliveries of all databases, the newest first."""
+
+    async def part(service: Service, _: int) -> list[Delivery]:
+        return await service.look(delivery_questions.listed(state, webhook, limit))
+
+    rows = [row for rows in (await of_each(call, part)).values() for row in rows]
+    return sorted(rows, key=lambda row: -row.at)[:limit]
 
 
 @routes.get(
@@ -83,10 +95,8 @@ async def listed(call: Call) -> Response:
     """
     check_all(call.principal)
     query = call.query
-    listed_deliveries = await call.service.look(
-        delivery_questions.listed(query["state"], query["webhook"], query["limit"])
-    )
-    return Json({"deliveries": [delivery_json(delivery) for delivery in listed_deliveries]})
+    rows = await latest(call, query["state"], query["webhook"], query["limit"])
+    return Json({"deliveries": [delivery_json(row) for row in rows]} | unavailable_of(call))
 
 
 @routes.post(
@@ -102,7 +112,7 @@ async def redeliver(call: Call) -> Response:
 
     It keeps its id and gets all its attempts again, even if it was delivered or given up.
     """
-    return Json(delivery_json(await post_again(call.service, call.principal, call.path["id"])))
+    return Json(delivery_json(await post_again(call, call.path["id"])))
 
 
 # -- the page
@@ -130,9 +140,7 @@ async def deliveries_page(call: Call) -> Response:
     """Show the latest deliveries, newest first."""
     check_all(call.principal)
     state, webhook = call.query["state"], call.query["webhook"]
-    listed_deliveries = await call.service.look(
-        delivery_questions.listed(state, webhook, LISTED + 1)
-    )
+    listed_deliveries = await latest(call, state, webhook, LISTED + 1)
     return show_page(
         call.request,
         "webhooks.html",
@@ -152,7 +160,7 @@ async def deliveries_page(call: Call) -> Response:
 @page_routes.post("/ui/webhooks/{id}/redeliver", permission=Permission.OPERATE)
 async def redeliver_from_page(call: Call) -> Response:
     """Post a delivery again, and redirect to the list."""
-    session, form = await session_and_form(call.request)
-    await post_again(service_of(call.request), session.principal, call.path["id"])
+    _, form = await session_and_form(call.request)
+    await post_again(call, call.path["id"])
     state = form.get("state") if form.get("state") in STATES else None
     return RedirectResponse(page_url(state=state, webhook=form.get("webhook", "")[:64]), 303)

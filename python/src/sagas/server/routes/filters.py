@@ -3,14 +3,17 @@
 from __future__ import annotations
 
 import datetime
-from collections.abc import Iterable, Mapping
+import re
+from collections.abc import Callable, Iterable, Mapping
 from decimal import Decimal
-from typing import Any
+from typing import Any, TypeVar
 
+from sagas.core import page_tokens
 from sagas.definition.labels import Labels, checked
 from sagas.inspection.pages import Position
 from sagas.server.access import check_definition
 from sagas.server.auth import Principal
+from sagas.server.problems import Problem
 from sagas.server.shapes import (
     DECIMAL,
     Field,
@@ -24,9 +27,13 @@ from sagas.server.shapes import (
 )
 from sagas.storage.filters import Filter
 
+T = TypeVar("T")
 LIMIT = Field(Number(1, 1000, whole=True), "maximum number of entries", default=100)
 POSITION = r"-?[0-9]+(\.[0-9]+)?-[0-9]+"
-CURSOR = Text(max_length=64, pattern=POSITION)
+MERGED = "[A-Za-z0-9_-]+"
+"""The form of a token of a store over several databases."""
+MAX_TOKEN = page_tokens.MAX_LENGTH
+CURSOR = Text(max_length=MAX_TOKEN, pattern=f"{POSITION}|{MERGED}")
 """A position in the list: when a saga started, and its id, such as 1795934845.949-1048577."""
 
 
@@ -105,6 +112,35 @@ def labels_of(texts: Iterable[str]) -> dict[str, str]:
     return dict(text.partition("=")[::2] for text in texts)
 
 
+PAGE_CURSOR = Text(max_length=80, pattern=rf"{POSITION}(-[0-9]{{1,2}})?")
+"""A position in the list of the dashboard: that of a saga, and the index of its database."""
+
+
+def page_cursor(position: tuple[float, int], index: int) -> str:
+    """Return the cursor of a saga in the list of the dashboard."""
+    return f"{cursor_of(position)}-{index}" if index else cursor_of(position)
+
+
+def bound_of(cursor: str | None, index: int, *, is_newer: bool) -> Position:
+    """Return the bound of a page in a database: what is next to a cursor of any database.
+
+    Args:
+        cursor: As `page_cursor` returns it. None: no bound.
+        index: The index of the database.
+        is_newer: Whether the page has newer sagas than the cursor, or older ones. Of sagas that
+            started at once, those of the first database come first in a list with the newest first.
+    """
+    if cursor is None:
+        return None
+    text, _, last = cursor.rpartition("-")
+    if not re.fullmatch(POSITION, text):
+        text, last = cursor, "0"
+    (at, id), of = parse_position(text), int(last)
+    if is_newer:
+        return at, id - (index < of)
+    return at, id + (index > of)
+
+
 def cursor_of(position: tuple[float, int]) -> str:
     """Return the text of a position. Parsing it returns exactly the same position."""
     at, id = position
@@ -113,7 +149,33 @@ def cursor_of(position: tuple[float, int]) -> str:
 
 def position_of(cursor: str | None) -> Position:
     """Return the position in a cursor."""
-    return None if cursor is None else parse_position(cursor)
+    if cursor is None:
+        return None
+    if not re.fullmatch(POSITION, cursor):
+        raise other_list()
+    return parse_position(cursor)
+
+
+def positions_of(kind: str, after: object, count: int, read: Callable[[Any], T]) -> list[T | None]:
+    """Return the position in each database after which a page begins. Raises `Problem`.
+
+    Args:
+        kind: The kind of the list.
+        after: The token of the previous page, or None.
+        count: The number of databases.
+        read: As for `page_tokens.positions_of`.
+    """
+    if after is None:
+        return [None] * count
+    try:
+        return page_tokens.positions_of(kind, str(after), count, read)
+    except ValueError:
+        raise other_list() from None
+
+
+def other_list() -> Problem:
+    """Return the problem for a token of another list, or of another store."""
+    return Problem("InvalidRequest", "after: must be `next` of the previous page", "after")
 
 
 def parse_position(cursor: str) -> tuple[float, int]:

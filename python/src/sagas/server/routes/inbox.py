@@ -22,12 +22,14 @@ from sagas.runtime.leased_tasks import Queue
 from sagas.server import buttons, json_bodies
 from sagas.server.auth import Permission, Principal
 from sagas.server.dashboard import session_and_fields, show_page
+from sagas.server.database_reads import of_each, replies_to
 from sagas.server.decision_log import log_decision
 from sagas.server.figures import Phases
 from sagas.server.operations import Call, Routes
 from sagas.server.problems import Problem
 from sagas.server.routes import approvals, filters, operators, trends
 from sagas.server.routes.operators import Target
+from sagas.server.service import Service
 from sagas.server.shapes import Choice, Field, Number, Text
 from sagas.storage.filters import NOTHING, Filter
 
@@ -181,12 +183,12 @@ def id_of(group: Group) -> str:
 
 def id_of_entry(entry: Entry) -> str:
     """Return the identifier of an entry in forms."""
-    return f"{entry.id}.{entry.step_index}.{'undo' if entry.undo else 'run'}"
+    return f"{entry.database}.{entry.id}.{entry.step_index}.{'undo' if entry.undo else 'run'}"
 
 
 def wait_of(entry: Entry) -> str:
     """Return the identifier of what an entry waits for. It changes if the same step waits again."""
-    wait = entry.id, entry.step_index, entry.undo, entry.since
+    wait = entry.database, entry.id, entry.step_index, entry.undo, entry.since
     return hashlib.sha256(json.dumps(wait).encode()).hexdigest()[:16]
 
 
@@ -320,6 +322,21 @@ def wanted_of(principal: Principal, fields: dict[str, Any]) -> Wanted:
     )
 
 
+async def entries_of(call: Call, wanted: Wanted, kind: str) -> list[Entry]:
+    """Return the entries of a kind of all databases, by the starts of their sagas."""
+
+    async def part(service: Service, index: int) -> list[Entry]:
+        listed = await service.look(wanted.entries(kind))
+        return [dataclasses.replace(entry, database=index) for entry in listed] if index else listed
+
+    parts = await of_each(call, part)
+    sign = -1 if wanted.order == "newest" else 1
+    entries = [entry for _, part in sorted(parts.items()) for entry in part]
+    if len(parts) > 1:
+        entries.sort(key=lambda entry: (sign * entry.started, entry.database))
+    return entries[:MAX_GROUPED]
+
+
 def kinds_of(principal: Principal) -> tuple[str, ...]:
     """Return the kinds of entries that a user sees: who may not browse sagas sees approvals."""
     return KINDS if principal.has_permission(Permission.BROWSE) else (APPROVAL,)
@@ -394,9 +411,10 @@ async def inbox(call: Call) -> Response:
     counts, needed = await service.figures.of(principal.scope)
     is_filtered = any(query[name] for name in FILTERED)
     if is_filtered:
-        needed = await service.look(wanted.counts())
+        parts = await replies_to(call, wanted.counts)
+        needed = {kind: sum(part[kind] for part in parts) for kind in KINDS}
     kind = query["kind"] or next((kind for kind in kinds if needed[kind]), kinds[0])
-    entries = await service.look(wanted.entries(kind))
+    entries = await entries_of(call, wanted, kind)
     parameters = {name: query[name] for name in KEPT}
 
     def url(**change: Any) -> str:
@@ -456,7 +474,7 @@ async def act(call: Call) -> Response:
         wanted = wanted_of(call.principal, form)
     except (ValueError, SagasError) as error:
         return not_acted(call.request, "No action selected", f"{error}.", "/ui")
-    entries = await call.service.look(wanted.entries(kind))
+    entries = await entries_of(call, wanted, kind)
     if kind == APPROVAL:
         entries = await approvals.ordered(call.service, entries, wanted.order)
     choose = functools.partial(selected, entries, fields)

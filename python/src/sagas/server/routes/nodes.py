@@ -2,19 +2,20 @@
 
 from __future__ import annotations
 
+import dataclasses
 import logging
 from collections.abc import Mapping
 from typing import Any
 
-from starlette.requests import Request
 from starlette.responses import RedirectResponse, Response
 
 from sagas.base.errors import NoSuchNode, SagasError
 from sagas.core.nodes import NodeStatus
 from sagas.server import answers, problems
-from sagas.server.access import on_page, over_http, service_of, viewer_of
+from sagas.server.access import on_page, over_http
 from sagas.server.auth import Permission, Principal
 from sagas.server.dashboard import session_and_form, show_page
+from sagas.server.database_reads import of_each, unavailable_of
 from sagas.server.json_bodies import Json, times
 from sagas.server.operations import Answer, Call, Routes
 from sagas.server.problems import Problem
@@ -87,7 +88,21 @@ async def listed(call: Call) -> Response:
     restricted to some sagas cannot list them.
     """
     check_unlimited(call.principal)
-    return Json({"nodes": [node_json(node) for node in await call.service.store.nodes()]})
+    rows = [
+        node_json(node) | ({"database": index + 1} if call.service.database_count > 1 else {})
+        for index, node in await placed(call)
+    ]
+    return Json({"nodes": rows} | unavailable_of(call))
+
+
+async def placed(call: Call) -> list[tuple[int, NodeStatus]]:
+    """Return the nodes of each database by name, with the index of the database.
+
+    A program is a node of each database, and is listed for each.
+    """
+    parts = await of_each(call, lambda service, _: service.store.nodes())
+    rows = [(index, node) for index, part in parts.items() for node in part]
+    return sorted(rows, key=lambda row: (row[1].name, row[0]))
 
 
 @routes.post(
@@ -143,16 +158,25 @@ page_routes = Routes("pages", is_page=True)
 @page_routes.get("/ui/nodes", permission=Permission.BROWSE)
 async def nodes_page(call: Call) -> Response:
     """Show the nodes, and a form to drain one."""
-    return await shown_nodes(call.request, {})
+    return await shown_nodes(call, {})
 
 
 async def shown_nodes(
-    request: Request, form: Mapping[str, Any], status: int = 200, fault: str | None = None
+    call: Call, form: Mapping[str, Any], status: int = 200, fault: str | None = None
 ) -> Response:
-    check_unlimited(viewer_of(request))
-    nodes = await service_of(request).store.nodes()
-    values = {"nodes": nodes, "form": form, "fault": fault}
-    return show_page(request, "nodes.html", status, here="nodes", **values)
+    check_unlimited(call.principal)
+    nodes = [
+        dataclasses.replace(node, database=str(index + 1)) for index, node in await placed(call)
+    ]
+    programs = {node.name: node for node in reversed(nodes)}
+    values: dict[str, Any] = {
+        "nodes": nodes,
+        "form": form,
+        "fault": fault,
+        "programs": sorted(programs.items()),
+    }
+    values["has_several"] = call.service.database_count > 1
+    return show_page(call.request, "nodes.html", status, here="nodes", **values)
 
 
 @page_routes.post("/ui/nodes", permission=Permission.OPERATE)
@@ -173,6 +197,6 @@ async def drained(call: Call) -> Response:
         if not isinstance(error, (Problem, NoSuchNode)):
             raise
         problem = error if isinstance(error, Problem) else problems.of(error)
-        return await shown_nodes(call.request, form, problem.kind.status, str(problem))
+        return await shown_nodes(call, form, problem.kind.status, str(problem))
     logger.info("%s has changed the drain of node %s", session.principal.name, name)
     return RedirectResponse("/ui/nodes", 303)

@@ -8,6 +8,7 @@ from typing import Any
 
 from starlette.responses import Response
 
+from sagas.api.worker_set import summed
 from sagas.base.errors import SagasError, StepNotWaiting
 from sagas.core.decisions import Decision, Requester, Way, new_bulk
 from sagas.definition.child_sagas import key_of
@@ -17,6 +18,7 @@ from sagas.inspection.question import Question
 from sagas.server import answers, json_views, problems
 from sagas.server.access import over_http
 from sagas.server.auth import DECISIONS, Permission
+from sagas.server.database_reads import of_each, unavailable_of
 from sagas.server.decision_log import log_decision
 from sagas.server.json_bodies import Json
 from sagas.server.metrics import TYPE
@@ -63,8 +65,11 @@ async def ready(call: Call) -> Response:
     Returns 503 if the store cannot be written or the service is stopping. A proxy then uses
     another service.
     """
-    reason = call.service.ready()
-    return Json({"ready": reason is None, "reason": reason}, 200 if reason is None else 503)
+    reason, unavailable = call.service.ready(), call.service.unavailable
+    fields: dict[str, Any] = {"ready": reason is None, "reason": reason}
+    if unavailable is not None:
+        fields["unavailable"] = unavailable
+    return Json(fields, 200 if reason is None else 503)
 
 
 @routes.get(
@@ -163,8 +168,10 @@ async def queues(call: Call) -> Response:
     Returns, for each step that the token may claim, how many tasks are ready and claimed, and
     since when the oldest one waits.
     """
-    visible = await call.service.queues(call.principal)
-    return Json({"queues": [json_views.queue(waiting) for waiting in visible]})
+    parts = await of_each(call, lambda service, _: service.queues(call.principal))
+    visible = summed(queue for part in parts.values() for queue in part)
+    rows = [json_views.queue(waiting) for waiting in visible]
+    return Json({"queues": rows} | unavailable_of(call))
 
 
 # -- many sagas at once: first a count, then the action

@@ -29,13 +29,15 @@ from sagas.server.access import (
 )
 from sagas.server.auth import Permission, Principal, roles_with
 from sagas.server.dashboard import form_of, page, session_and_form, show_page
+from sagas.server.database_reads import of_each, replies_to
 from sagas.server.event_stream import Listener
 from sagas.server.figures import Phases
 from sagas.server.operations import Call, Routes
 from sagas.server.problems import Problem
 from sagas.server.routes import filters
-from sagas.server.routes.filters import CURSOR
+from sagas.server.routes.filters import PAGE_CURSOR, bound_of
 from sagas.server.routes.sagas import stream
+from sagas.server.service import Service
 from sagas.server.shapes import Field, Text
 from sagas.server.table_rows import FEW, folded
 from sagas.storage.filters import NOTHING, Filter, Scope
@@ -126,7 +128,7 @@ async def logout(call: Call) -> Response:
 TEXT = Field(Text(max_length=512), default=None)
 FILTERED = ("phase", "search", "definition", "label", "error", "since", "until")
 LIST = {name: TEXT for name in FILTERED} | {
-    name: Field(CURSOR, default=None) for name in ("before", "after")
+    name: Field(PAGE_CURSOR, default=None) for name in ("before", "after")
 }
 
 
@@ -141,19 +143,18 @@ async def listed(call: Call) -> Response:
         parameters["phase"] = None
     fault = None
     counts, needing = await service.figures.of(principal.scope)
-    bounds: dict[str, Any] = {"limit": LISTED + 1}
-    bounds |= {"before": filters.position_of(before), "after": filters.position_of(after)}
     try:
         selected = filter_of(parameters, principal)
     except (ValueError, SagasError) as error:
         fault, selected = f"{error}.", Filter(scope=NOTHING)
-    sagas = await service.look(pages_module.page(of=selected, **bounds))
-    more, sagas = len(sagas) > LISTED, sagas[:LISTED]
+    placed = await page_of(call, selected, before, after)
+    more, placed = len(placed) > LISTED, placed[:LISTED]
     if after is not None:
-        sagas.reverse()
-    waits, for_operator = await service.look(waits_of(sagas, principal.scope))
+        placed.reverse()
+    waits, for_operator = await waits_of(call, placed)
     cursors = [
-        filters.cursor_of(pages_module.position_of(summary)) for summary in sagas[:1] + sagas[-1:]
+        filters.page_cursor(pages_module.position_of(summary), index)
+        for index, summary in placed[:1] + placed[-1:]
     ]
     newer = cursors[0] if cursors and (more if after is not None else before is not None) else None
     older = cursors[-1] if cursors and (more or after is not None) else None
@@ -176,7 +177,7 @@ async def listed(call: Call) -> Response:
         moments={name: moment_text(parameters[name], name) for name in ("since", "until")},
         fault=fault,
         counts=counts,
-        sagas=sagas,
+        sagas=[summary for _, summary in placed],
         waits=waits,
         newer=newer,
         older=older,
@@ -184,6 +185,31 @@ async def listed(call: Call) -> Response:
         since=since,
         live="/ui/events" if is_first else None,
     )
+
+
+Placed = tuple[int, Summary]
+"""The index of a database, and one of its sagas."""
+
+
+async def page_of(
+    call: Call, selected: Filter, before: str | None, after: str | None
+) -> list[Placed]:
+    """Return the sagas next to a cursor, and one more than a page has, from all databases.
+
+    The newest come first, or those next to `after`.
+    """
+
+    async def part(service: Service, index: int) -> list[Summary]:
+        bounds: dict[str, Any] = {
+            "before": bound_of(before, index, is_newer=False),
+            "after": bound_of(after, index, is_newer=True),
+        }
+        return await service.look(pages_module.page(of=selected, limit=LISTED + 1, **bounds))
+
+    parts = await of_each(call, part)
+    placed = [(index, summary) for index, part in parts.items() for summary in part]
+    placed.sort(key=lambda pair: (pair[1].started, pair[1].id, -pair[0]), reverse=after is None)
+    return placed[: LISTED + 1]
 
 
 def tabs_of(
@@ -199,9 +225,23 @@ def tabs_of(
     ]
 
 
-def waits_of(sagas: list[Summary], scope: Scope) -> Question[tuple[dict[int, list[PageWait]], int]]:
-    """Return what these sagas wait for, and how many of a scope wait for an operator."""
-    return (yield from page_waits.page_waits(sagas)), (yield from page_waits.for_operator(scope))
+async def waits_of(call: Call, placed: list[Placed]) -> tuple[dict[str, list[PageWait]], int]:
+    """Return what these sagas wait for, by key, and how many of all wait for an operator."""
+
+    def question(
+        sagas: list[Summary], scope: Scope
+    ) -> Question[tuple[dict[int, list[PageWait]], int]]:
+        waits = yield from page_waits.page_waits(sagas)
+        return waits, (yield from page_waits.for_operator(scope))
+
+    async def part(service: Service, index: int) -> tuple[dict[str, list[PageWait]], int]:
+        keys = {summary.id: summary.key for of, summary in placed if of == index}
+        sagas = [summary for of, summary in placed if of == index]
+        waits, number = await service.look(question(sagas, call.principal.scope))
+        return {keys[id]: of_saga for id, of_saga in waits.items()}, number
+
+    parts = (await of_each(call, part)).values()
+    return {key: waits for of, _ in parts for key, waits in of.items()}, sum(n for _, n in parts)
 
 
 def moment_text(text: str | None, name: str) -> str:
@@ -247,9 +287,11 @@ async def workers(call: Call) -> Response:
     request = call.request
     service, principal = call.service, call.principal
     since = service.hub.now
-    claimed = await service.look(
-        lists.waits(MAX_CLAIMED, person=False, why="external", scope=principal.scope)
+    claimed_of = await replies_to(
+        call,
+        lambda: lists.waits(MAX_CLAIMED, person=False, why="external", scope=principal.scope),
     )
+    claimed = sorted((wait for part in claimed_of for wait in part), key=lambda wait: wait.since)
     now, seen = time.time(), (await service.seen(principal))[:200]
     queues = []
     for queue in await service.queues(principal):
@@ -272,7 +314,7 @@ async def workers(call: Call) -> Response:
         queues=folded(queues, lambda row: (not row[0].ready, bool(row[1]), -row[0].ready)),
         workers=seen,
         strange=unknown_steps,
-        claimed=claimed,
+        claimed=claimed[:MAX_CLAIMED],
         max_claimed=MAX_CLAIMED,
         few=FEW,
         now=now,

@@ -6,7 +6,6 @@ import logging
 from collections.abc import Mapping
 from typing import Any
 
-from starlette.requests import Request
 from starlette.responses import RedirectResponse, Response
 
 from sagas.base.errors import SagasError
@@ -14,9 +13,10 @@ from sagas.core.decisions import Requester
 from sagas.core.pauses import Pause, PauseScope, scope_of
 from sagas.inspection import pauses as questions
 from sagas.server import answers, problems
-from sagas.server.access import on_page, over_http, service_of, viewer_of
+from sagas.server.access import on_page, over_http
 from sagas.server.auth import Permission, Principal
 from sagas.server.dashboard import session_and_form, show_page
+from sagas.server.database_reads import replies_to, unavailable_of
 from sagas.server.json_bodies import Json, times
 from sagas.server.operations import Answer, Call, Routes
 from sagas.server.problems import Problem
@@ -74,10 +74,19 @@ def scope_in(principal: Principal, fields: Mapping[str, Any]) -> PauseScope:
     return scope
 
 
-async def seen(service: Service, principal: Principal) -> list[Pause]:
-    """Return the pauses that may hold sagas which a principal may see."""
-    stored = await service.look(questions.pauses())
-    return [pause for pause in stored if pause.saga is None or principal.sees(pause.saga)]
+async def seen(call: Call) -> list[Pause]:
+    """Return the pauses that may hold sagas which the principal may see, the oldest first.
+
+    A pause is in all databases.
+    """
+    parts, principal = await replies_to(call, questions.pauses), call.principal
+    stored = sorted((pause for part in parts for pause in part), key=lambda pause: pause.at)
+    scopes = {pause.scope: pause for pause in reversed(stored)}
+    return [
+        pause
+        for pause in stored
+        if scopes[pause.scope] is pause and (pause.saga is None or principal.sees(pause.saga))
+    ]
 
 
 async def pause_scope(
@@ -114,8 +123,8 @@ async def listed(call: Call) -> Response:
 
     Returns those that may hold sagas which the token may see.
     """
-    visible = await seen(call.service, call.principal)
-    return Json({"pauses": [pause_json(pause) for pause in visible]})
+    rows = [pause_json(pause) for pause in await seen(call)]
+    return Json({"pauses": rows} | unavailable_of(call))
 
 
 @routes.post(
@@ -162,15 +171,14 @@ page_routes = Routes("pages", is_page=True)
 @page_routes.get("/ui/pauses", permission=Permission.BROWSE)
 async def pauses_page(call: Call) -> Response:
     """Show the pauses, and a form to pause more."""
-    return await shown_pauses(call.request, {})
+    return await shown_pauses(call, {})
 
 
 async def shown_pauses(
-    request: Request, form: Mapping[str, Any], status: int = 200, fault: str | None = None
+    call: Call, form: Mapping[str, Any], status: int = 200, fault: str | None = None
 ) -> Response:
-    service, principal = service_of(request), viewer_of(request)
-    visible = await seen(service, principal)
-    names = sorted({saga.name for saga in service.store.sagas if principal.sees(saga.name)})
+    principal, visible = call.principal, await seen(call)
+    names = sorted({saga.name for saga in call.service.store.sagas if principal.sees(saga.name)})
     values = {
         "pauses": [(pause, may_change(principal, pause.scope)) for pause in visible],
         "names": names,
@@ -178,7 +186,7 @@ async def shown_pauses(
         "form": form,
         "fault": fault,
     }
-    return show_page(request, "pauses.html", status, here="pauses", **values)
+    return show_page(call.request, "pauses.html", status, here="pauses", **values)
 
 
 def fields_of_form(form: Mapping[str, str]) -> dict[str, Any]:
@@ -199,21 +207,21 @@ def fields_of_form(form: Mapping[str, str]) -> dict[str, Any]:
 @page_routes.post("/ui/pauses", permission=Permission.OPERATE)
 async def paused(call: Call) -> Response:
     """Pause what the form names."""
-    return await _changed(call.request, pause_scope)
+    return await _changed(call, pause_scope)
 
 
 @page_routes.post("/ui/pauses/resume", permission=Permission.OPERATE)
 async def resumed(call: Call) -> Response:
     """Resume what the form names."""
-    return await _changed(call.request, resume_scope)
+    return await _changed(call, resume_scope)
 
 
-async def _changed(request: Request, change: Any) -> Response:
-    session, form = await session_and_form(request)
+async def _changed(call: Call, change: Any) -> Response:
+    session, form = await session_and_form(call.request)
     try:
         principal = session.principal
-        await change(service_of(request), principal, on_page(principal), fields_of_form(form))
+        await change(call.service, principal, on_page(principal), fields_of_form(form))
     except (Problem, SagasError) as error:
         problem = error if isinstance(error, Problem) else problems.of(error)
-        return await shown_pauses(request, form, problem.kind.status, str(problem))
+        return await shown_pauses(call, form, problem.kind.status, str(problem))
     return RedirectResponse("/ui/pauses", 303)

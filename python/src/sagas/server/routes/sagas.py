@@ -12,7 +12,7 @@ from urllib.parse import quote
 from starlette.requests import Request
 from starlette.responses import PlainTextResponse, Response
 
-from sagas.api.store import Run
+from sagas.api.run import Run
 from sagas.base.errors import DefinitionError, KeyConflict, NoSuchSaga
 from sagas.core.decisions import Decision
 from sagas.definition import child_sagas, tracing

@@ -7,7 +7,6 @@ import logging
 from collections.abc import Awaitable, Callable
 from typing import Any
 
-from starlette.requests import Request
 from starlette.responses import RedirectResponse, Response
 
 from sagas.base.errors import NoSuchSchedule, SagasError
@@ -15,12 +14,11 @@ from sagas.definition.payloads import unescaped_value
 from sagas.definition.timing import key_of
 from sagas.inspection import lists
 from sagas.server import answers, json_views, problems
-from sagas.server.access import service_of
-from sagas.server.auth import Permission, Principal
+from sagas.server.auth import Permission
 from sagas.server.dashboard import session_and_form, show_page
+from sagas.server.database_reads import replies_to, unavailable_of
 from sagas.server.json_bodies import Json
 from sagas.server.operations import Answer, Call, Handler, Routes
-from sagas.server.service import Service
 from sagas.server.shapes import Choice, Text
 from sagas.storage.schedules import Schedule
 
@@ -30,9 +28,10 @@ NAME = Text(max_length=128, min_length=1)
 DONE = {"pause": "paused", "resume": "resumed", "remove": "removed"}
 
 
-async def seen(service: Service, principal: Principal) -> list[Schedule]:
-    """Return the schedules that the principal may see."""
-    stored = await service.look(lists.schedules())
+async def seen(call: Call) -> list[Schedule]:
+    """Return the schedules that the principal may see, of all databases, by name."""
+    principal, parts = call.principal, await replies_to(call, lists.schedules)
+    stored = sorted((row for part in parts for row in part), key=lambda row: row.name)
     return [
         dataclasses.replace(schedule, input=unescaped_value(schedule.input))
         for schedule in stored
@@ -40,21 +39,27 @@ async def seen(service: Service, principal: Principal) -> list[Schedule]:
     ]
 
 
-async def change(service: Service, principal: Principal, name: str, verb: str) -> None:
-    """Pause, resume or remove a schedule.
+async def check_seen(call: Call, name: str) -> None:
+    """Raise `NoSuchSchedule` if there is no schedule of a name that the principal may see.
 
-    Raises `NoSuchSchedule`, also for one that the principal may not see.
+    Raises `Problem` if a database that does not answer may have it.
     """
-    if name not in {schedule.name for schedule in await seen(service, principal)}:
+    if name not in {schedule.name for schedule in await seen(call)}:
+        call.service.check_complete()
         raise NoSuchSchedule(f"no schedule has the name {name!r}")
-    store = service.store
+
+
+async def change(call: Call, name: str, verb: str) -> None:
+    """Pause, resume or remove a schedule. Raises the same as `check_seen`."""
+    await check_seen(call, name)
+    store = call.service.store
     changes: dict[str, Callable[[str], Awaitable[None]]] = {
         "pause": store.pause_schedule,
         "resume": store.resume_schedule,
         "remove": store.remove_schedule,
     }
     await changes[verb](name)
-    logger.info("%s has %s the schedule %r", principal.name, DONE[verb], name)
+    logger.info("%s has %s the schedule %r", call.principal.name, DONE[verb], name)
 
 
 @routes.get(
@@ -68,15 +73,15 @@ async def listed(call: Call) -> Response:
 
     Returns those of the definitions that the token may see, with their last and next times.
     """
-    visible = await seen(call.service, call.principal)
-    return Json({"schedules": [json_views.schedule(schedule) for schedule in visible]})
+    rows = [json_views.schedule(schedule) for schedule in await seen(call)]
+    return Json({"schedules": rows} | unavailable_of(call))
 
 
 def declare(verb: str, description: str) -> Handler:
     """Declare the route of a change."""
 
     async def handler(call: Call) -> Response:
-        await change(call.service, call.principal, call.path["name"], verb)
+        await change(call, call.path["name"], verb)
         return Json({"name": call.path["name"], "done": DONE[verb]})
 
     handler.__doc__ = description
@@ -115,15 +120,12 @@ REMOVE: dict[str, Any] = {
 @page_routes.get("/ui/schedules", permission=Permission.BROWSE)
 async def schedules_page(call: Call) -> Response:
     """Show the schedules, by name."""
-    return await shown_schedules(call.request, call.principal)
+    return await shown_schedules(call)
 
 
-async def shown_schedules(
-    request: Request, principal: Principal, status: int = 200, fault: str | None = None
-) -> Response:
-    visible = await seen(service_of(request), principal)
-    values = {"schedules": visible, "fault": fault}
-    return show_page(request, "schedules.html", status, here="schedules", **values)
+async def shown_schedules(call: Call, status: int = 200, fault: str | None = None) -> Response:
+    values = {"schedules": await seen(call), "fault": fault}
+    return show_page(call.request, "schedules.html", status, here="schedules", **values)
 
 
 @page_routes.get(
@@ -134,8 +136,7 @@ async def shown_schedules(
 async def remove_page(call: Call) -> Response:
     """Ask for confirmation before a schedule is removed, because this cannot be undone."""
     name = call.path["name"]
-    if name not in {schedule.name for schedule in await seen(call.service, call.principal)}:
-        raise NoSuchSchedule(f"no schedule has the name {name!r}")
+    await check_seen(call, name)
     values: dict[str, Any] = {"title": f"Remove the schedule {name}?", **REMOVE}
     crumbs = [("/ui/schedules", "Schedules")]
     return show_page(call.request, "confirm.html", here="schedules", crumbs=crumbs, **values)
@@ -147,10 +148,9 @@ async def remove_page(call: Call) -> Response:
     parts={"change": Choice((*DONE,))},
 )
 async def schedule_changed(call: Call) -> Response:
-    session, _ = await session_and_form(call.request)
-    name, verb = call.path["name"], call.path["change"]
+    await session_and_form(call.request)
     try:
-        await change(service_of(call.request), session.principal, name, verb)
+        await change(call, call.path["name"], call.path["change"])
     except SagasError as error:
-        return await shown_schedules(call.request, session.principal, 409, str(problems.of(error)))
+        return await shown_schedules(call, 409, str(problems.of(error)))
     return RedirectResponse("/ui/schedules", 303)

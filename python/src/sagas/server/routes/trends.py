@@ -7,15 +7,24 @@ import time
 from collections.abc import Callable
 from typing import Any
 
-from sagas.core.trends import COUNTS, PERCENTILES, TrendBucket, TrendRange, Trends
+from sagas.core.trends import (
+    COUNTS,
+    PERCENTILES,
+    CountedRow,
+    TrendBucket,
+    TrendRange,
+    Trends,
+    trends_of,
+)
 from sagas.inspection import charts, trends as questions
-from sagas.inspection.question import Question
 from sagas.server import answers
 from sagas.server.access import check_definition
 from sagas.server.auth import Permission, Principal
+from sagas.server.database_reads import of_each, unavailable_of
 from sagas.server.json_bodies import Json, times
 from sagas.server.operations import Answer, Call, Routes
 from sagas.server.problems import Problem
+from sagas.server.service import Service
 from sagas.server.shapes import Choice, Field
 
 routes = Routes("sagas", "/v1")
@@ -53,9 +62,15 @@ def trends_json(trends: Trends, definition: str | None) -> dict[str, Any]:
     }
 
 
-def question_of(principal: Principal, kind: TrendRange, definition: str | None) -> Question[Trends]:
-    """Return the question for the trends that a principal may see."""
-    return questions.trends(kind, time.time(), definition, principal.scope)
+async def read(call: Call, kind: TrendRange, definition: str | None) -> Trends:
+    """Return the trends of all databases that the principal may see."""
+    now, scope = time.time(), call.principal.scope
+
+    async def part(service: Service, _: int) -> list[CountedRow]:
+        return await service.look(questions.rows(kind, now, definition, scope))
+
+    parts = await of_each(call, part)
+    return trends_of(kind, now, [row for rows in parts.values() for row in rows])
 
 
 @routes.get(
@@ -80,8 +95,8 @@ async def trends(call: Call) -> Json:
     if principal.scope.keys is not None:
         raise Problem("Forbidden", f"{principal.name} is limited to keys, and counts have no keys")
     kind = TrendRange(call.query["range"])
-    stored = await call.service.look(question_of(principal, kind, definition))
-    return Json(trends_json(stored, definition))
+    stored = await read(call, kind, definition)
+    return Json(trends_json(stored, definition) | unavailable_of(call))
 
 
 async def page_values(
@@ -92,7 +107,7 @@ async def page_values(
     `url`: returns the address of the page with another range.
     """
     service, kind = call.service, TrendRange(call.query["range"])
-    stored = await service.look(question_of(principal, kind, definition))
+    stored = await read(call, kind, definition)
     shown = [bucket for bucket in stored.buckets if not is_empty(bucket)]
     return {
         "charts": await service.threads.pages.do(lambda: charts.charts_of(stored)),

@@ -15,7 +15,7 @@ from psycopg import errors, sql
 
 from sagas.base.errors import InvalidStore, StoreSchemaTooNew, StoreUnavailable
 from sagas.base.logger import logger
-from sagas.storage.postgresql import conflicts, connections
+from sagas.storage.postgresql import conflicts, connections, database_maps
 from sagas.storage.postgresql.application_name import Purpose
 from sagas.storage.postgresql.connections import RIGHTS
 from sagas.storage.postgresql.server import SERVER
@@ -272,16 +272,25 @@ SELECT to_regclass('sagas.sagas_started') IS NULL AND pg_has_role(relowner, 'USA
 FROM pg_class WHERE oid = to_regclass('sagas.sagas')
 """
 """Whether the index is missing, and this user may create it."""
-ADDED = {"pauses": PAUSES, "drains": DRAINS, "trends": TRENDS, "deleted_sagas": DELETED_SAGAS}
+ADDED = {
+    "pauses": PAUSES,
+    "drains": DRAINS,
+    "trends": TRENDS,
+    "deleted_sagas": DELETED_SAGAS,
+    "database_map": database_maps.TABLE,
+}
 """The tables that stores of older releases do not have, with their statements."""
 LACKS = "SELECT to_regclass(%s) IS NULL"
 GRANTS = """
-SELECT format('GRANT SELECT, INSERT, UPDATE, DELETE ON sagas.%%I TO %%I', CAST(%s AS text), grantee)
+SELECT format('GRANT %%s ON sagas.%%I TO %%I', CAST(%s AS text), CAST(%s AS text), grantee)
 FROM information_schema.role_table_grants
 WHERE table_schema = 'sagas' AND table_name = 'schedules' AND privilege_type = 'INSERT'
   AND grantee <> current_user
 """
 """The rights on an added table for those who have them on the schedules."""
+ROWS = "SELECT, INSERT, UPDATE, DELETE"
+READ_ONLY = ("store", "database_map")
+"""The tables whose rows only commands of the owner change."""
 REMEDY = "Run `CREATE INDEX CONCURRENTLY sagas_started ON sagas.sagas(at, id)`"
 
 TABLES = (
@@ -385,7 +394,8 @@ def _add(connection: psycopg.Connection[tuple[object, ...]], table: str) -> None
     """Create a table in a store of an older release."""
     with connection.transaction():
         connection.execute(ADDED[table])
-        for (grant,) in connection.execute(GRANTS, (table,)).fetchall():
+        rights = "SELECT" if table in READ_ONLY else ROWS
+        for (grant,) in connection.execute(GRANTS, (rights, table)).fetchall():
             connection.execute(str(grant))
 
 
@@ -428,7 +438,9 @@ def _allow(connection: psycopg.Connection[tuple[object, ...]], role: str) -> Non
     name = sql.Identifier(role)
     with connection.transaction():
         connection.execute(sql.SQL("GRANT USAGE ON SCHEMA sagas TO {}").format(name))
-        connection.execute(sql.SQL("GRANT SELECT ON sagas.store TO {}").format(name))
+        for table in READ_ONLY:
+            read = sql.SQL("GRANT SELECT ON sagas.{} TO {}")
+            connection.execute(read.format(sql.Identifier(table), name))
         for table in TABLES:
             connection.execute(
                 sql.SQL("GRANT SELECT, INSERT, UPDATE, DELETE ON sagas.{} TO {}").format(

@@ -11,6 +11,7 @@ from typing import Any
 from sagas.base.cancellation import cancel_all
 from sagas.base.errors import StoreUnavailable
 from sagas.base.logger import logger
+from sagas.core.database_map import Misplaced, check_alone
 from sagas.core.shard.balance import NodeShare
 from sagas.core.shard.batch import (
     Batch,
@@ -24,6 +25,7 @@ from sagas.core.shard.batch import (
     ShardRow,
     StoredSaga,
 )
+from sagas.definition.arguments import BELOW
 from sagas.definition.payloads import Payloads
 from sagas.definition.serialization import cleaned
 from sagas.definition.call_options import Bounds
@@ -39,6 +41,7 @@ from sagas.storage.interface import (
 )
 from sagas.storage.postgresql import (
     connections,
+    database_maps,
     external_attempts,
     notifications,
     pooler_urls,
@@ -122,6 +125,7 @@ class PostgreSQL(queries.Questions):
         record: str | None = None,
         encodes: bool = False,
         direct_url: str | None = None,
+        is_member: bool = False,
     ) -> None:
         """Create the node's part. It is not open yet.
 
@@ -139,7 +143,10 @@ class PostgreSQL(queries.Questions):
             encodes: Whether there is a codec.
             direct_url: The URL of the server itself, if `url` is that of a pooler. Questions and
                 claims use the pooler, and all other connections the server.
+            is_member: Whether the caller has all databases of the store. If not, the database must
+                be the only one.
         """
+        self.is_member = is_member
         name = store_name.node_name(node)
         self._pooler = connections.hosts_of(url, name) if direct_url else None
         self.url = url = connections.hosts_of(direct_url or url, name)
@@ -253,6 +260,8 @@ class PostgreSQL(queries.Questions):
                 connection = connections.connect_now(self.url, Purpose.ADMIN)
                 with contextlib.closing(connection):
                     schema.migrate(connection, self.path)
+                    if not self.is_member:
+                        check_alone(database_maps.read_row(connection), self.path)
         except StoreUnavailable as error:
             cause = error.__cause__
             if isinstance(cause, Exception) and connections.FINAL.search(str(cause)):
@@ -516,6 +525,13 @@ class PostgreSQL(queries.Questions):
     def pending_lookups(self) -> int:
         """The number of keys that are being looked up."""
         return self._keys.pending_lookups
+
+    async def refusal(self, key: str) -> StoreUnavailable | None:
+        """See `Database.refusal`."""
+        if BELOW in key or not (await self.read(database_maps.HAS_FUNCTION))[0][0]:
+            return None
+        ((reason,),) = await self.read(database_maps.REASON, key)
+        return None if reason is None else Misplaced(f"{self.path}: {reason}")
 
     async def find(self, key: str) -> SagaRow | None:
         """See `KeyFinder.find`."""

@@ -90,6 +90,7 @@ class Sqlite(queries.Questions):
     """
 
     supports_nodes = False
+    is_member = False
     answers_at_once = True
     node = ""
     lease_seconds = 0.0
@@ -401,6 +402,9 @@ class Sqlite(queries.Questions):
         loaded.definition_count = self.rows(queries.DEFINITIONS, shard)[0][0]
         loaded.damage = queries.damage_of(text, events)
         return loaded
+
+    async def refusal(self, key: str) -> None:
+        """See `Database.refusal`. A file is the only database of its store."""
 
     async def find(self, key: str) -> SagaRow | None:
         """Return the saga with this key."""
