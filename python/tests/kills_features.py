@@ -362,6 +362,8 @@ class Round:
     def _deploy(self) -> None:
         """Start each node with the next release, one after the other."""
         if self.added is not None:
+            for node in self.nodes:  # one that opens later needs the longer list
+                self._until_open(node)
             while store_command.main([self.url, "map", "add", self.added]) != 0:
                 self._keep_up()
             self.url = f"{self.url},{self.added}"
