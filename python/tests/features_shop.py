@@ -65,6 +65,7 @@ class Settings:
     broker: str = ""
     queue: str = ""
     wrong: str = ""
+    pooled: str = ""
 
     @classmethod
     def read(cls, path: str | os.PathLike[str]) -> Settings:
@@ -84,6 +85,14 @@ class Settings:
     def urls(self) -> list[str]:
         """The databases of the store."""
         return urls_of(self.store)
+
+    @property
+    def opened(self) -> tuple[str | list[str], str | list[str] | None]:
+        """What a node opens, and its `direct_url`: the servers, if it opens poolers before them."""
+        store, pooled = (
+            urls if len(urls) > 1 else urls[0] for urls in (self.urls, urls_of(self.pooled or "-"))
+        )
+        return (pooled, store) if self.pooled else (store, None)
 
 
 @dataclasses.dataclass

@@ -102,8 +102,9 @@ class Node:
         if has("retention"):
             options |= {"retention": RETENTION, "archive_dir": folder / "archive"}
         hooks: list[Webhooks] = []
+        store_or_pooler, options["direct_url"] = settings.opened
         store = sagas.open(
-            settings.urls if len(settings.urls) > 1 else settings.store,
+            store_or_pooler,
             self.shop.sagas,
             concurrency=8,
             settings=sagas.Settings(engine_processes=4),

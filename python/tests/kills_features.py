@@ -1,12 +1,16 @@
 """Random faults over the features together: rounds of eight features each, with a deploy in each.
 
     python3 tests/kills_features.py [--rounds N] [--store sqlite|postgresql|databases] [--sagas N]
-        [--strikes N] [--seed S] [--options a,b,c] [--deploy added|renamed|typed] [--wrong NAME|all]
+        [--strikes N] [--seed S] [--options a,b,c] [--deploy added|renamed|typed] [--pooler]
+        [--wrong NAME|all]
 
 Forty rounds have each pair of features together. A round is one store, over SQLite with one node
 and over PostgreSQL with three. `databases` is three databases, each of its own server. In half of
-the rounds the third one joins with the deploy. Callers start sagas, abort some, and report steps
-early; operators resolve what needs attention. Concurrently nodes
+the rounds the third one joins with the deploy. With `--pooler` nodes open their store through
+PgBouncer, which pools transactions, and listen at the server itself.
+
+Callers start sagas, abort some, and report steps early; operators resolve what needs attention.
+Concurrently nodes
 
 - are killed with SIGKILL, and started again;
 - are asked to end, and started again;
@@ -38,8 +42,9 @@ import sys
 import tempfile
 import threading
 import time
+import types
 from collections import Counter
-from collections.abc import Iterator, Sequence
+from collections.abc import Iterator, Mapping, Sequence
 from typing import Any
 
 if __name__ == "__main__":
@@ -54,6 +59,7 @@ from features_judge import FeatureVerdict, judge, rows_of
 from features_options import SERVED, STORES, options_of
 from features_shop import DEPLOYS, Settings
 from kills import children
+from poolers import pooled
 from server import Server, serving
 from witness import Witness, witness_at
 
@@ -65,6 +71,8 @@ PATIENCE = 20.0
 """Seconds without faults after which the operator reports what nothing else reports."""
 APART = 1_000_000
 """The distance between the numbers of shards of two databases."""
+RETRY = "server_login_retry = 1"
+"""A setting of PgBouncer: the seconds after which it connects to a failed server again."""
 KINDS = ("kill", "kill", "term", "stop", "engine")
 SERVED_KINDS = (*KINDS, "kill", "database")
 Json = dict[str, Any]
@@ -192,7 +200,9 @@ class Round:
         time_limit: float = 180,
         nodes: int = 3,
         seconds: float = 0.0,
+        poolers: Mapping[int, int] = types.MappingProxyType({}),
     ) -> None:
+        self.poolers = poolers
         self.folder, self.draw = folder, random.Random(seed)
         self.servers, self.broker = servers, broker
         self.strikes, self.time_limit, self.seconds = strikes, time_limit, seconds
@@ -216,6 +226,7 @@ class Round:
             seed,
             LEASE,
             wrong=wrong,
+            pooled=self._pooled(),
         )
         names = ("one", "two", "three")[:nodes] if servers else ("one",)
         self.nodes = [Node(name, folder / "settings.json") for name in names]
@@ -244,6 +255,13 @@ class Round:
         for number, url in enumerate([*urls, *([self.added] if self.added else [])]):
             rows_of(url, f"ALTER SEQUENCE shard_numbers RESTART WITH {number * APART}")
         return ",".join(urls)
+
+    def _pooled(self) -> str:
+        """Return the store's URLs with the ports of the poolers, if there are any."""
+        pooled = self.url if self.poolers else ""
+        for port, pooler in self.poolers.items():
+            pooled = pooled.replace(f":{port}/", f":{pooler}/")
+        return pooled
 
     def play(self) -> FeatureVerdict:
         """Run until all is over; then judge it."""
@@ -367,7 +385,9 @@ class Round:
             while store_command.main([self.url, "map", "add", self.added]) != 0:
                 self._keep_up()
             self.url = f"{self.url},{self.added}"
-            self.settings = dataclasses.replace(self.settings, store=self.url, direct=self.url)
+            self.settings = dataclasses.replace(
+                self.settings, store=self.url, direct=self.url, pooled=self._pooled()
+            )
             self.settings.write(self.folder / "settings.json")
         for node in self.nodes if self.settings.deploy else []:
             self._wait(self.draw.uniform(0.1, 0.6))
@@ -506,7 +526,10 @@ def main() -> int:
     parser.add_argument("--options", help="in place of those of the seed, with commas between")
     parser.add_argument("--deploy", choices=DEPLOYS, help="in place of that of the seed")
     parser.add_argument("--wrong", help="a wrong variant, or all")
+    parser.add_argument("--pooler", action="store_true", help="nodes use PgBouncer")
     options = parser.parse_args()
+    if options.pooler and options.store == "sqlite":
+        parser.error("--pooler needs PostgreSQL: --store postgresql or --store databases")
     if options.wrong:
         return wrong(options.wrong)
     kills, figures = Counter[str](), Counter[str]()
@@ -516,6 +539,11 @@ def main() -> int:
         broker = None
         count = {"sqlite": 0, "postgresql": 1, "databases": 3}[options.store]
         servers = [stack.enter_context(serving({"fsync": "on"})) for _ in range(count)]
+        poolers = {
+            server.port: stack.enter_context(pooled(server, "transaction", RETRY))
+            for server in servers
+            if options.pooler
+        }
         if servers:
             folder = pathlib.Path(stack.enter_context(tempfile.TemporaryDirectory()))
             broker = stack.enter_context(broker_at("redis", folder))
@@ -529,6 +557,7 @@ def main() -> int:
                 broker=broker,
                 options=features,
                 deploy=options.deploy,
+                poolers=poolers,
             )
             kills += played.kills
             figures += played.verdict.figures

@@ -3,8 +3,10 @@
 from __future__ import annotations
 
 import asyncio
+import concurrent.futures
 import contextlib
 import pathlib
+import threading
 from collections.abc import Iterator
 
 import psycopg
@@ -111,6 +113,29 @@ def test_what_needs_the_server_itself(there: str) -> None:
     with pytest.raises(sagas.InvalidStore, match="pools transactions"):
         PostgreSQLWorkerSession(there).say()
     check_untouched(there)
+
+
+def test_while_others_use_the_pooler(url: str, there: str) -> None:
+    """A node and a client that know the server itself open their store each time."""
+    is_over, kind = threading.Event(), simple(lambda task: 1)
+
+    def use() -> None:
+        with psycopg.connect(there, autocommit=True) as connection:
+            while not is_over.is_set():
+                connection.execute("SELECT 1", prepare=False)
+
+    with concurrent.futures.ThreadPoolExecutor() as pool:
+        users = [pool.submit(use) for _ in range(3)]
+        try:
+            for number in range(10):
+                with sagas.open_sync(there, [kind], direct_url=url) as store:
+                    store.start(kind, f"k{number}")
+                    assert store.wait(f"k{number}", 30).ok
+                with sagas.SyncClient(there, direct_url=url) as client:
+                    assert client.wait(f"k{number}", 30).ok
+        finally:
+            is_over.set()
+    assert all(user.exception() is None for user in users)
 
 
 @pytest.mark.parametrize("has_direct_url", [False, True], ids=["polls", "listens"])

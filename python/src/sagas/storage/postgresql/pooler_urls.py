@@ -3,14 +3,17 @@
 from __future__ import annotations
 
 from sagas.base.errors import InvalidStore, StoreUnavailable
-from sagas.storage.postgresql import connections
+from sagas.storage.postgresql import connections, poolers
 from sagas.storage.postgresql.application_name import Purpose
 from sagas.storage.postgresql.caller_connection import HERE
 from sagas.storage.postgresql.connections import Hosts, Row
 
 
 async def check(url: Hosts, direct_url: Hosts) -> None:
-    """Find out whether `url` is a pooler of transactions, and check the URL of the server.
+    """Find out whether `url` is a pooler, and check the URL of the server.
+
+    Any pooler is taken for one of transactions, because the comparison of sessions is a probe: it
+    may miss such a pooler while others use it.
 
     Raises:
         StoreUnavailable: One of them does not answer.
@@ -19,6 +22,9 @@ async def check(url: Hosts, direct_url: Hosts) -> None:
     """
     store_name = connections.named(url)
     await connections.check_access(url, store_name, Purpose.HOSTS)
+    with connections.translate_errors(store_name):
+        address = connections.address(url, Purpose.HOSTS)
+        url.is_pooled = url.is_pooled or await poolers.is_pooler(address)
     here, there = await _database(url), await _database(direct_url)
     if here != there:
         raise InvalidStore(

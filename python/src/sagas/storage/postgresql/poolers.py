@@ -29,6 +29,8 @@ STATEMENTS = (
     "pool_mode=transaction, or name the server itself"
 )
 SESSION = f"SELECT {SERVER.session}"
+PROBES = 3
+"""How often a second session is compared. While others use the pooler, a probe may miss it."""
 SESSION_PATIENCE = 2.0
 """Seconds for a second session: a pooler that has none left pools sessions."""
 STATEMENT_POOLING = "statement pooling"
@@ -58,23 +60,17 @@ async def check_sessions(connection: psycopg.AsyncConnection[Any], address: str)
         connection: A new connection that commits each statement.
         address: Its address, for another connection.
     """
-
-    async def session(of: psycopg.AsyncConnection[Any]) -> int:
-        rows = await (await of.execute(SESSION, prepare=False)).fetchall()
-        return int(rows[0][0])
-
-    first = await session(connection)
+    first = await _session(connection)
     if first == connection.info.backend_pid:
         return
+    is_shared = False
     other = await psycopg.AsyncConnection.connect(address, autocommit=True)
     try:
         async with asyncio.timeout(SESSION_PATIENCE):
-            await other.execute("BEGIN")
-            is_shared = await session(other) == first or await session(connection) != first
-            await other.execute("COMMIT")  # its session is the one that is free last
-            is_shared = is_shared or await session(connection) != first
+            for _ in range(PROBES):
+                is_shared = is_shared or await _is_shared(connection, other, first)
     except TimeoutError:
-        is_shared = False
+        pass
     except errors.OperationalError as error:
         if STATEMENT_POOLING not in str(error):
             raise
@@ -85,21 +81,41 @@ async def check_sessions(connection: psycopg.AsyncConnection[Any], address: str)
         raise TransactionPooled
 
 
+async def _session(connection: psycopg.AsyncConnection[Any]) -> int:
+    rows = await (await connection.execute(SESSION, prepare=False)).fetchall()
+    return int(rows[0][0])
+
+
+async def _is_shared(
+    connection: psycopg.AsyncConnection[Any], other: psycopg.AsyncConnection[Any], first: int
+) -> bool:
+    await other.execute("BEGIN")
+    if await _session(other) == first or await _session(connection) != first:
+        return True
+    await other.execute("COMMIT")
+    # of the free sessions the pooler takes the last one, or each in turn
+    return {await _session(connection), await _session(connection)} != {first}
+
+
+async def is_pooler(address: str) -> bool:
+    """Return whether the connections of an address are those of a pooler of any kind."""
+    connection = await psycopg.AsyncConnection.connect(address, autocommit=True)
+    try:
+        return await _session(connection) != connection.info.backend_pid
+    finally:
+        await connection.close()
+
+
 def check_sessions_now(connection: psycopg.Connection[Any], address: str) -> None:
     """See `check_sessions`, for a connection of a thread."""
-
-    def session(of: psycopg.Connection[Any]) -> int:
-        return int(of.execute(SESSION, prepare=False).fetchall()[0][0])
-
-    first = session(connection)
+    first = _session_now(connection)
     if first == connection.info.backend_pid:
         return
     other = psycopg.connect(address, autocommit=True)
+    is_shared = False
     try:
-        other.execute("BEGIN")
-        is_shared = session(other) == first or session(connection) != first
-        other.execute("COMMIT")  # its session is the one that is free last
-        is_shared = is_shared or session(connection) != first
+        for _ in range(PROBES):
+            is_shared = is_shared or _is_shared_now(connection, other, first)
     except errors.OperationalError as error:
         if STATEMENT_POOLING not in str(error):
             raise
@@ -108,6 +124,20 @@ def check_sessions_now(connection: psycopg.Connection[Any], address: str) -> Non
         other.close()
     if is_shared:
         raise TransactionPooled
+
+
+def _session_now(connection: psycopg.Connection[Any]) -> int:
+    return int(connection.execute(SESSION, prepare=False).fetchall()[0][0])
+
+
+def _is_shared_now(
+    connection: psycopg.Connection[Any], other: psycopg.Connection[Any], first: int
+) -> bool:
+    other.execute("BEGIN")
+    if _session_now(other) == first or _session_now(connection) != first:
+        return True
+    other.execute("COMMIT")
+    return {_session_now(connection), _session_now(connection)} != {first}
 
 
 # -- connections to a pooler of transactions
