@@ -229,8 +229,7 @@ def test_a_canceled_wait_of_a_node(away: Away, store: str) -> None:
 
                 async def is_visible() -> bool:
                     """Cancel the wait of each commit, until the start of `k` was in one."""
-                    if away.rows(f"SELECT 1 {WAITS} AND query LIKE '%event_log%'"):
-                        away.cancel()
+                    away.rows(f"SELECT pg_cancel_backend(pid) {WAITS} AND query LIKE '%event_log%'")
                     return await second._coordinator.store.find("k") is not None
 
                 await until(is_visible)
